@@ -47,7 +47,7 @@ use Rattle.rescue.proofs.Promises.{rescued-injective}
 use Rattle.rescue.proofs.Cuts.{cut-length, cut-children, cut-kind, cut-byte}
 use Rattle.rescue.proofs.Largest.{keeps, none-larger}
 use Rattle.rescue.proofs.Keeping.{names-long, whole-checked, whole-kept, whole-fronted, whole-file, cut-some}
-use Rattle.rescue.proofs.Keeping.{cut-kept, good-some, good-whole, kept-content, kept-read, kept-held}
+use Rattle.rescue.proofs.Keeping.{cut-kept, good-root, kept-content, kept-read, kept-held}
 
 -- the answer, from its three tests
 abbrev pub steps : Bool → Bool → Bool → List ℕ → Answer
@@ -145,7 +145,7 @@ module _ (bs : List ℕ) (w : blocksPass bs ≡ false) where
   some-kept : 1 ≤ childrenKept t names → 1 ≤ length (tableKept bs)
   some-kept some =
       let kind = keeps t names some .kind in
-      let long = cut-length (childrenKept t names) t (good-some bs kind) (good-whole bs) in
+      let long = cut-length (childrenKept t names) (good-root bs kind) in
       let is : tableKept bs ≡ cutTo (childrenKept t names) t =
       rw (cut-kept bs w, le-leb 1 (childrenKept t names) some) refl in
       omega (arith, ap length is)
@@ -195,11 +195,10 @@ module _ (bs : List ℕ) (w : blocksPass bs ≡ false) (some : 1 ≤ length (tab
   own-statements =
       let cut = cut-some bs w some in
       let k = keeps (goodTable bs) (contentAt bs .names) (cut .0) in
-      let big = good-some bs k.kind in
-      let kind : nodeOf 0 (cutTo own (goodTable bs)) .kind ≡ kindStatements =
-      cut-kind own (goodTable bs) big (good-whole bs) ∙ k.kind in
+      let root = good-root bs k.kind in
+      let kind : nodeOf 0 (cutTo own (goodTable bs)) .kind ≡ kindStatements = cut-kind own root ∙ k.kind in
       rw (cut .1, eq-eqb (nodeOf 0 (cutTo own (goodTable bs)) .kind) kindStatements kind)
-      (ap (λ (f : Forest). length (roots f)) (cut-children own (goodTable bs) big (good-whole bs))
+      (ap (λ (f : Forest). length (roots f)) (cut-children own root)
       ∙ firsts-roots own (children (goodTable bs)) k.there)
 
   largest : (k : Kept) → k .statements ≡ statementsOf (tableKept bs) → Largest bs k
@@ -301,9 +300,9 @@ pub only-size : OnlySize
 only-size bs w i inside low high =
     let cut = cut-some bs w (omega arith) in
     let own : ℕ = childrenKept (goodTable bs) (contentAt bs .names) in
-    let big = good-some bs (keeps (goodTable bs) (contentAt bs .names) (cut .0) .kind) in
-    let long = cut-length own (goodTable bs) big (good-whole bs) in
-    rw (cut .1) (cut-byte own (goodTable bs) big (good-whole bs) i (omega (arith, ap length (cut .1))) low high)
+    let root = good-root bs (keeps (goodTable bs) (contentAt bs .names) (cut .0) .kind) in
+    let long = cut-length own root in
+    rw (cut .1) (cut-byte own root i (omega (arith, ap length (cut .1))) low high)
 
 -- a file that the reader accepts has a good header, and its blocks pass
 module _ (file : List ℕ) (e : readCheck file ≡ accepted []) where
