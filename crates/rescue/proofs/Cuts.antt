@@ -1,7 +1,7 @@
 -- The cut of a table to k children: its root is the old one except for the size, and its children are the first k of
 -- the old ones (`cut-children`, by forest's `forest-firsts`). The only premise is that the table has whole records
--- and begins with a Statements (`Rooted`), so no law here needs sound children. Changing the size touches bytes 16 and 17 of the root alone, which no other
--- field and no child reads. Assumes nothing.
+-- and begins with a Statements (`Rooted`), so no law here needs sound children. Changing the size touches bytes 16
+-- and 17 of the root alone, which no other field and no child reads. Assumes nothing.
 use mathlib.Core.Path.{_≡_, refl, sym, ap, _∙_}
 use mathlib.Core.Logic.{_⊎_, inl, inr, ⊎-elim}
 use mathlib.Core.List.{List}
