@@ -18,7 +18,7 @@ use lib.Seq.{take-all, length-take-le, take-at, drop-at, take-take, take-nil, dr
 use lib.Seq.{take-set-le}
 use lib.Dec.{eqb, leb}
 use borrow.Author.Tests.{eq-eqb, ne-eqb, eqb-true, le-leb, leb-true}
-use Rattle.fields.proofs.Basics.{drop-take, le-or-lt, never}
+use Rattle.fields.proofs.Basics.{drop-take, le-or-lt, and-left, and-right}
 use Rattle.table.proofs.Answers.{never-passed}
 use Rattle.fields.specs.Field.{field}
 use Rattle.fields.proofs.Fields.{field-take}
@@ -99,15 +99,13 @@ unfolding sumOf
 sum-front f l h = weighed-front 508 f l h
 
 -- a list that passes the test for zeros consists of zeros
-zeros-are : (l : List ℕ) → zeros l ≡ true → l ≡ replicate (length l) 0
+pub zeros-are : (l : List ℕ) → zeros l ≡ true → l ≡ replicate (length l) 0
 unfolding zeros
 zeros-are [] e = refl
-zeros-are (x ∷ l) e = go (eqb x 0) refl (zeros-are l) e
-  where
-    go : (t : Bool) → eqb x 0 ≡ t → (zeros l ≡ true → l ≡ replicate (length l) 0) → (t && zeros l) ≡ true
-        → x ∷ l ≡ 0 ∷ replicate (length l) 0
-    go true p rest q = let h : x ≡ 0 = eqb-true x 0 p in let r : l ≡ replicate (length l) 0 = rest q in cc
-    go false p rest q = never (cc)
+zeros-are (x ∷ l) e =
+    let h : x ≡ 0 = eqb-true x 0 (and-left (eqb x 0) (zeros l) e) in
+    let r : l ≡ replicate (length l) 0 = zeros-are l (and-right (eqb x 0) (zeros l) e) in
+    cc
 
 are-zeros : (n : ℕ) → zeros (replicate n 0) ≡ true
 unfolding zeros

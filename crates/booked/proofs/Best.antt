@@ -1,7 +1,7 @@
 -- The best place of a book that passes 95 and 96 is the one place whose entry fits and has the highest setting. Going
 -- over the places, no fitting setting is above the best so far (`best-over`), and the best so far fits (`best-fits`).
 -- In a sound book every setting is at least 1, so 0 means that there is none (`best-none`). No zone and setting
--- occurs twice, so two highest places are the same place (`one-place`). The induction is on the number of places.
+-- occurs twice, so two highest places are the same place (`one-highest`). The induction is on the number of places.
 -- Cite `best-highest`, `highest-best`, `best-none` and `none-best`. Assumes nothing.
 use mathlib.Core.Path.{_≡_, refl, sym, ap, _∙_}
 use mathlib.Core.Bool.{Bool, true, false, _&&_, not}
@@ -21,6 +21,7 @@ use Rattle.books.specs.Book.{again}
 use Rattle.books.specs.Book.{twiceIn, judgeBook}
 use Rattle.books.specs.Lookup.{fits, bestSetting, bestIn}
 use Rattle.books.proofs.Laws.{every-stop, some-stop}
+use Rattle.books.proofs.Marking.{parts-for}
 use Rattle.booked.specs.Said.{Passing, Fitting, Highest}
 
 -- THEOREM: a book is accepted exactly if it passes 95 and 96
@@ -60,36 +61,37 @@ module _ (zone asked : ℕ) (book : List ℕ) where
     le-leb (settingOf (entryAt book p)) asked (f .upto),
   ) refl
 
-  -- no fitting setting is above that of the best place
-  best-over : (n q : ℕ) → q < n → fits zone asked (entryAt book q) ≡ true
-      → settingOf (entryAt book q) ≤ bestSetting book (bestIn zone asked book n)
+  -- the setting of the best of n places
+  abbrev top : ℕ → ℕ
+  top n = bestSetting book (bestIn zone asked book n)
+
+  -- with one place more it is no less, and if that place fits, not below its setting
+  top-grows : (n : ℕ) → top n ≤ top (suc n)
   unfolding bestIn bestSetting
-  best-over zero q h e = absurd (omega arith)
-  best-over (suc n) q h e =
-      go (fits zone asked (entryAt book n)) refl
-      (ltb (bestSetting book (bestIn zone asked book n)) (settingOf (entryAt book n))) refl
-      (λ (k : q < n). best-over n q k e)
+  top-grows n = go (fits zone asked (entryAt book n)) (ltb (top n) (settingOf (entryAt book n))) refl
     where
-      go : (f : Bool) → fits zone asked (entryAt book n) ≡ f
-          → (l : Bool) → ltb (bestSetting book (bestIn zone asked book n)) (settingOf (entryAt book n)) ≡ l
-          → (q < n → settingOf (entryAt book q) ≤ bestSetting book (bestIn zone asked book n))
-          → settingOf (entryAt book q) ≤ bestSetting book (if' (f && l) (λ _. suc n) (λ _. bestIn zone asked book n))
-      go true f true l before = ⊎-elim
-          (λ (k : n ≤ q). let same : q ≡ n = omega arith in rw same (omega arith))
-          (λ (k : q < n). omega (
-            arith,
-            before k,
-            ltb-true (bestSetting book (bestIn zone asked book n)) (settingOf
-                (entryAt book n)) l,
-          )) (le-or-lt n q)
-      go true f false l before = ⊎-elim
-          (λ (k : n ≤ q). let same : q ≡ n = omega arith in rw same (ltb-false (bestSetting book
-          (bestIn zone asked book n)) (settingOf (entryAt book n)) l))
-          (λ (k : q < n). before k) (le-or-lt n q)
-      go false f l m before = ⊎-elim
-          (λ (k : n ≤ q). let same : q ≡ n = omega arith in
-          clash e (ap (λ (x : ℕ). fits zone asked (entryAt book x)) same ∙ f))
-          (λ (k : q < n). before k) (le-or-lt n q)
+      go : (f l : Bool) → ltb (top n) (settingOf (entryAt book n)) ≡ l
+          → top n ≤ bestSetting book (if' (f && l) (λ _. suc n) (λ _. bestIn zone asked book n))
+      go true true l-is = omega (arith, ltb-true (top n) (settingOf (entryAt book n)) l-is)
+      go true false l-is = omega arith
+      go false l l-is = omega arith
+
+  top-over : (n : ℕ) → fits zone asked (entryAt book n) ≡ true → settingOf (entryAt book n) ≤ top (suc n)
+  unfolding bestIn bestSetting
+  top-over n e = rw e (go (ltb (top n) (settingOf (entryAt book n))) refl)
+    where
+      go : (l : Bool) → ltb (top n) (settingOf (entryAt book n)) ≡ l
+          → settingOf (entryAt book n) ≤ bestSetting book (if' l (λ _. suc n) (λ _. bestIn zone asked book n))
+      go true l-is = omega arith
+      go false l-is = ltb-false (top n) (settingOf (entryAt book n)) l-is
+
+  -- no fitting setting is above that of the best place
+  best-over : (n q : ℕ) → q < n → fits zone asked (entryAt book q) ≡ true → settingOf (entryAt book q) ≤ top n
+  best-over zero q h e = absurd (omega arith)
+  best-over (suc n) q h e = ⊎-elim
+      (λ (k : n ≤ q). let same : q ≡ n = omega arith in rw same (top-over n (rw same at e)))
+      (λ (k : q < n). omega (arith, best-over n q k e, top-grows n))
+      (le-or-lt n q)
 
   -- the best place fits
   best-fits : (n p : ℕ) → bestIn zone asked book n ≡ suc p → (p < n) × (fits zone asked (entryAt book p) ≡ true)
@@ -109,6 +111,21 @@ module _ (zone asked : ℕ) (book : List ℕ) where
       go true f false before g = let b = before g in (omega (arith, b .0), b .1)
       go false f l before g = let b = before g in (omega (arith, b .0), b .1)
 
+-- two entries that are not empty and have the same zone and setting
+pub record Alike (e f : List ℕ) : Type 0 where
+  pub taken : zeros e ≡ false
+  pub other : zeros f ≡ false
+  pub zones : zoneOf e ≡ zoneOf f
+  pub settings : settingOf e ≡ settingOf f
+
+pub alike-back : {e f : List ℕ} → Alike e f → Alike f e
+alike-back a = record {
+  taken = a .other;
+  other = a .taken;
+  zones = sym (a .zones);
+  settings = sym (a .settings);
+}
+
 -- the entry at a place of a sound book
 module _ {line : Bool} {book : List ℕ} (b : Passing line book) where
   pub places-sound : soundPlaces line book (placesOf book) ≡ true
@@ -124,18 +141,23 @@ module _ {line : Bool} {book : List ℕ} (b : Passing line book) where
       go true e = rw taken at e
       go false e = clash places-sound (every-stop (λ q. soundPlace line (entryAt book q)) (placesOf book) p h e)
 
-  -- two places with the same zone and setting are one
-  pub apart : (p q : ℕ) → q < p → p < placesOf book → zeros (entryAt book p) ≡ false → zeros (entryAt book q) ≡ false
-      → zoneOf (entryAt book q) ≡ zoneOf (entryAt book p) → settingOf (entryAt book q) ≡ settingOf (entryAt book p) → ⊥
-  unfolding twiceIn again seenBefore seenIn isFor
-  apart p q h inside taken-p taken-q zones settings =
+  -- two entries with the same zone and setting are at the same place
+  pub apart : (p q : ℕ) → q < p → p < placesOf book → Alike (entryAt book q) (entryAt book p) → ⊥
+  unfolding twiceIn again seenBefore seenIn
+  apart p q h inside a =
       let e : List ℕ = entryAt book p in
       let hit : isFor (zoneOf e) (settingOf e) (entryAt book q) ≡ true =
-      rw (taken-q, eq-eqb _ _ zones, eq-eqb _ _ settings) refl in
+      parts-for record { taken = a .taken; zoned = a .zones; set = a .settings } in
       let seen : seenIn (zoneOf e) (settingOf e) book p ≡ true =
       some-stop (λ r. isFor (zoneOf e) (settingOf e) (entryAt book r)) p q h hit in
-      let twice : again book p ≡ true = rw (taken-p, seen) refl in
+      let twice : again book p ≡ true = rw (a .other, seen) refl in
       clash (some-stop (again book) (placesOf book) p inside twice) (b .once)
+
+  pub one-place : (p q : ℕ) → p < placesOf book → q < placesOf book → Alike (entryAt book p) (entryAt book q) → p ≡ q
+  one-place p q hp hq a = ⊎-elim
+      (λ (h : p ≤ q). ⊎-elim (λ (k : q ≤ p). let e : p ≡ q = omega arith in e)
+      (λ (k : p < q). absurd (apart q p k hq a)) (le-or-lt q p))
+      (λ (h : q < p). absurd (apart p q h hp (alike-back a))) (le-or-lt p q)
 
   module _ {zone asked : ℕ} where
     pub positive : (p : ℕ) → Fitting zone asked book p → 1 ≤ settingOf (entryAt book p)
@@ -143,19 +165,16 @@ module _ {line : Bool} {book : List ℕ} (b : Passing line book) where
     positive p f = leb-true 1 _ (and-left (leb 1 (settingOf (entryAt book p))) _
         (entry-sound p (f .inside) (f .taken)))
 
-    one-place : (p q : ℕ) → Highest zone asked book p → Highest zone asked book q → p ≡ q
-    one-place p q a c =
+    one-highest : (p q : ℕ) → Highest zone asked book p → Highest zone asked book q → p ≡ q
+    one-highest p q a c =
         let f : Fitting zone asked book p = a .fitting in
         let g : Fitting zone asked book q = c .fitting in
-        let settings : settingOf (entryAt book q) ≡ settingOf (entryAt book p) = omega
-        (arith, a .most q g, c .most p f) in
-        let zones : zoneOf (entryAt book q) ≡ zoneOf (entryAt book p) = g .zoned ∙ sym (f .zoned) in
-        ⊎-elim
-        (λ (h : p ≤ q). ⊎-elim (λ (k : q ≤ p). let e : p ≡ q = omega arith in e)
-        (λ (k : p < q). absurd (apart q p k (g .inside) (g .taken) (f .taken) (sym zones) (sym settings)))
-        (le-or-lt q p))
-        (λ (h : q < p). absurd (apart p q h (f .inside) (f .taken) (g .taken) zones settings))
-        (le-or-lt p q)
+        one-place p q (f .inside) (g .inside) record {
+          taken = f .taken;
+          other = g .taken;
+          zones = f .zoned ∙ sym (g .zoned);
+          settings = omega (arith, a .most q g, c .most p f);
+        }
 
     -- LAW: the best place is the highest
     pub best-highest : (p : ℕ) → bestIn zone asked book (placesOf book) ≡ suc p → Highest zone asked book p
@@ -182,7 +201,7 @@ module _ {line : Bool} {book : List ℕ} (b : Passing line book) where
       where
         go : (b : ℕ) → bestIn zone asked book (placesOf book) ≡ b → bestIn zone asked book (placesOf book) ≡ suc p
         go zero e = absurd (best-none e p (h .fitting))
-        go (suc q) e = e ∙ ap suc (one-place q p (best-highest q e) h)
+        go (suc q) e = e ∙ ap suc (one-highest q p (best-highest q e) h)
 
     -- LAW: if no place fits, there is no best place
     pub none-best : ((q : ℕ) → Fitting zone asked book q → ⊥) → bestIn zone asked book (placesOf book) ≡ 0

@@ -1,21 +1,20 @@
 -- W-213, additions and removals, over both books. The book of an entry is the line book for zone 0 and the zone book
--- for every other zone. So each theorem has these two cases: in each, one book stays unchanged, and the other is as
--- `Changes`, `Back` and `Kept` show for one book. Demand 4: `added-found`, `added-elsewhere`, `added-removed`,
--- `removed-added`, `removed-room`. Demand 5: `added-passes`, `removed-passes`, `blanked-passes`, `added-apart`,
--- `removed-apart`, `added-refused`, `removed-refused`; the other book is not read: `add-unread`, `remove-unread`.
--- `Bytes` and settings below 2^32 are what the code knows of its inputs. Assumes nothing.
-use mathlib.Core.Path.{_≡_, refl, sym, ap, _∙_}
+-- for every other zone; the other book is not read (`add-is`, `remove-is`) and stays (`other-after`). So each theorem
+-- is the one that `Changes`, `Back` and `Kept` show for the entry's book. Demand 4: `added-found`, `added-elsewhere`,
+-- `added-removed`, `removed-added`, `removed-room`. Demand 5: `added-passes`, `removed-passes`, `blanked-passes`,
+-- `added-apart`, `removed-apart`, `added-refused`, `removed-refused`, `add-unread`, `remove-unread`. `Bytes` and
+-- settings below 2^32 are what the code knows of its inputs. Assumes nothing.
+use mathlib.Core.Path.{_≡_, refl, sym, _∙_}
 use mathlib.Core.Bool.{Bool, true, false}
-use mathlib.Core.List.{List, [], _∷_}
-use Prim.Native.Nat.{ℕ, zero, suc, _+_, _/_, _%_, _<_, _≤_}
+use mathlib.Core.List.{List}
+use Prim.Native.Nat.{ℕ, zero, suc, _+_, _/_, _%_, _<_}
 use native.Mathlib.Omega.{arith}
 use lib.ListN.{length}
 use lib.Dec.{eqb, leb}
 use borrow.Author.Tests.{leb-true, ne-eqb}
 use Rattle.fields.specs.Choice.{if'}
-use Rattle.fields.proofs.Basics.{never, clash, and-left, and-right}
+use Rattle.fields.proofs.Basics.{and-left, and-right}
 use Rattle.fields.proofs.Spelling.{Bytes}
-use Rattle.dialect.specs.Bytes.{validBytes, within, limits}
 use Rattle.books.specs.declared.Changed.{Changed}
 use Rattle.books.specs.declared.Changed.the-variants.{Placed, Refused, Bare}
 use Rattle.books.specs.Book.{placeAt, entryAt, dialectOf, belongs, soundLength}
@@ -25,100 +24,127 @@ use Rattle.books.specs.Change.{addOf, removeOf, zoneAfter, lineAfter, zoneAdded
 use Rattle.books.specs.Change.{blankBlocks, blankOf, blankAfter}
 use Rattle.booked.specs.Said.{Passing, AllHeld, BothPass, bookOf, toldIn, Reaches, SameApart}
 use Rattle.booked.proofs.Parts.{put-outside}
-use Rattle.booked.proofs.Changes.{Added, added, added-book, add-passes, long, add-zone-found, add-line-found}
-use Rattle.booked.proofs.Changes.{add-zone-elsewhere, add-line-elsewhere, removed-one, remove-passes}
-use Rattle.booked.proofs.Changes.{remove-room}
-use Rattle.booked.proofs.Back.{add-then-remove, add-remove, remove-again, remove-add, remove-add-back}
+use Rattle.booked.proofs.Changes.{Added, added, new-long, add-passes, add-bytes, add-zone-found}
+use Rattle.booked.proofs.Changes.{add-line-found, add-zone-elsewhere, add-line-elsewhere}
+use Rattle.booked.proofs.Changes.{Removed, removed-one, without, remove-passes, remove-room}
+use Rattle.booked.proofs.Back.{add-then-remove, add-remove, Again, remove-again, remove-add, remove-add-back}
 use Rattle.booked.proofs.Fresh.{blank-passes}
 
--- dialect bytes that are valid are bytes
-within-bytes : (ms ns : List ℕ) → Bytes ms → within ms ns ≡ true → Bytes ns
-unfolding within
-within-bytes ms [] small e i = omega arith
-within-bytes [] (n ∷ ns) small e i = never (cc)
-within-bytes (m ∷ ms) (n ∷ ns) small e zero =
-    let most : n ≤ m = leb-true n m (and-left (leb n m) (within ms ns) e) in
-    omega (arith, small zero)
-within-bytes (m ∷ ms) (n ∷ ns) small e (suc i) =
-    within-bytes ms ns (λ j. small (suc j)) (and-right (leb n m) (within ms ns) e) i
+-- the book that the entry does not belong to
+abbrev pub otherOf : ℕ → List ℕ → List ℕ → List ℕ
+otherOf zone zb lb = if' (isLine zone) (λ _. zb) (λ _. lb)
 
-limits-small : Bytes limits
-limits-small zero = omega arith
-limits-small (suc zero) = omega arith
-limits-small (suc (suc zero)) = omega arith
-limits-small (suc (suc (suc zero))) = omega arith
-limits-small (suc (suc (suc (suc zero)))) = omega arith
-limits-small (suc (suc (suc (suc (suc zero))))) = omega arith
-limits-small (suc (suc (suc (suc (suc (suc zero)))))) = omega arith
-limits-small (suc (suc (suc (suc (suc (suc (suc zero))))))) = omega arith
-limits-small (suc (suc (suc (suc (suc (suc (suc (suc zero)))))))) = omega arith
-limits-small (suc (suc (suc (suc (suc (suc (suc (suc (suc i))))))))) = omega arith
+-- by whether the zone is 0: it belongs into its book, which is one of the two
+own : (zone : ℕ) → belongs (isLine zone) zone ≡ true
+own zone = go (isLine zone) refl
+  where
+    go : (t : Bool) → eqb zone 0 ≡ t → belongs t zone ≡ true
+    go true e = e
+    go false e = rw e refl
 
-valid-small : (dialect : List ℕ) → validBytes dialect ≡ true → Bytes dialect
-unfolding validBytes
-valid-small dialect e = within-bytes limits dialect limits-small e
-
--- the dialect bytes of an accepted addition are valid
-added-small : (line : Bool) (book : List ℕ) (zone setting : ℕ) (dialect : List ℕ) (b p : ℕ)
-    → addIn line book zone setting dialect ≡ Placed b p → Bytes dialect
-added-small line book zone setting dialect b p e =
-    let a : Added line book zone setting dialect p = added line book zone setting dialect b p e in
-    valid-small dialect (and-right (leb zone 65535) _ (and-right (leb 1 setting) _ (a .may)))
-
--- a zone that is not 0: its book is the zone book
 off : (n : ℕ) → eqb (suc n) 0 ≡ false
 off n = ne-eqb (suc n) 0 (λ (e : suc n ≡ 0). omega arith)
 
-own : (n : ℕ) → belongs false (suc n) ≡ true
-own n = rw (off n) refl
+own-bytes : (zone : ℕ) (zb lb : List ℕ) → Bytes zb → Bytes lb → Bytes (bookOf zone zb lb)
+own-bytes zone zb lb bytes-z bytes-l = go (isLine zone)
+  where
+    go : (t : Bool) → Bytes (if' t (λ _. lb) (λ _. zb))
+    go true = bytes-l
+    go false = bytes-z
 
-add-is : (zb lb : List ℕ) (n setting : ℕ) (dialect : List ℕ)
-    → addOf zb lb (suc n) setting dialect ≡ addIn false zb (suc n) setting dialect
-unfolding addOf
-add-is zb lb n setting dialect = rw (off n) refl
+both-same : (zone : ℕ) {zb lb zb′ lb′ : List ℕ} → bookOf zone zb lb ≡ bookOf zone zb′ lb′
+    → otherOf zone zb lb ≡ otherOf zone zb′ lb′ → (zb ≡ zb′) × (lb ≡ lb′)
+both-same zone {zb} {lb} {zb′} {lb′} = go (isLine zone)
+  where
+    go : (t : Bool) → if' t (λ _. lb) (λ _. zb) ≡ if' t (λ _. lb′) (λ _. zb′)
+        → if' t (λ _. zb) (λ _. lb) ≡ if' t (λ _. zb′) (λ _. lb′) → (zb ≡ zb′) × (lb ≡ lb′)
+    go true e f = (f, e)
+    go false e f = (e, f)
 
-remove-is : (zb lb : List ℕ) (n setting : ℕ) → removeOf zb lb (suc n) setting ≡ removeIn false zb (suc n) setting
-unfolding removeOf
-remove-is zb lb n setting = rw (off n) refl
+-- the two books afterwards, for any answer
+module _ (zone : ℕ) (a : Changed) (e zb lb : List ℕ) where
+  own-after : bookOf zone (zoneAfter zone a e zb) (lineAfter zone a e lb) ≡ after a e (bookOf zone zb lb)
+  unfolding zoneAfter lineAfter
+  own-after = go (isLine zone)
+    where
+      go : (t : Bool)
+          → if' t (λ _. if' t (λ _. after a e lb) (λ _. lb)) (λ _. if' t (λ _. zb) (λ _. after a e zb))
+          ≡ after a e (if' t (λ _. lb) (λ _. zb))
+      go true = refl
+      go false = refl
 
--- the book of an entry after an accepted addition, and after an accepted removal
+  other-after : otherOf zone (zoneAfter zone a e zb) (lineAfter zone a e lb) ≡ otherOf zone zb lb
+  unfolding zoneAfter lineAfter
+  other-after = go (isLine zone)
+    where
+      go : (t : Bool)
+          → if' t (λ _. if' t (λ _. zb) (λ _. after a e zb)) (λ _. if' t (λ _. after a e lb) (λ _. lb))
+          ≡ if' t (λ _. zb) (λ _. lb)
+      go true = refl
+      go false = refl
+
+-- an addition answers for the entry's book
+module _ (zb lb : List ℕ) (zone setting : ℕ) (dialect : List ℕ) where
+  add-is : addOf zb lb zone setting dialect ≡ addIn (isLine zone) (bookOf zone zb lb) zone setting dialect
+  unfolding addOf
+  add-is = go (isLine zone)
+    where
+      go : (t : Bool) → if' t (λ _. addIn true lb zone setting dialect) (λ _. addIn false zb zone setting dialect)
+          ≡ addIn t (if' t (λ _. lb) (λ _. zb)) zone setting dialect
+      go true = refl
+      go false = refl
+
+  -- the two books after an addition
+  abbrev zb⁺ : List ℕ
+  zb⁺ = zoneAdded zb lb zone setting dialect
+
+  abbrev lb⁺ : List ℕ
+  lb⁺ = lineAdded zb lb zone setting dialect
+
+  -- the other book is not changed
+  pub added-other : otherOf zone zb⁺ lb⁺ ≡ otherOf zone zb lb
+  unfolding zoneAdded lineAdded
+  added-other = other-after zone (addOf zb lb zone setting dialect) (entryOf zone setting dialect) zb lb
+
+  module _ (b p : ℕ) (e : addOf zb lb zone setting dialect ≡ Placed b p) where
+    book-added : bookOf zone zb⁺ lb⁺ ≡ putEntry (bookOf zone zb lb) p (entryOf zone setting dialect)
+    unfolding zoneAdded lineAdded
+    book-added = own-after zone (addOf zb lb zone setting dialect) (entryOf zone setting dialect) zb lb ∙ rw e refl
+
+    module _ (small : setting < 4294967296) where
+      in-book : Added (isLine zone) (bookOf zone zb lb) zone setting dialect b p
+      in-book = added (own zone) small (sym add-is ∙ e)
+
+      -- only the place and its block's sum change
+      pub added-apart : SameApart p (bookOf zone zb⁺ lb⁺) (bookOf zone zb lb)
+      added-apart = rw book-added (λ j n apart.
+          put-outside (bookOf zone zb lb) p (entryOf zone setting dialect) (in-book .inside) (new-long in-book) j n
+          (apart .place) (apart .sum))
+
+      -- DEMAND 5: the resulting book passes 95 and 96
+      pub added-passes : Bytes zb → Bytes lb → Passing (isLine zone) (bookOf zone zb⁺ lb⁺)
+      added-passes bytes-z bytes-l = rw book-added (add-passes in-book (own-bytes zone zb lb bytes-z bytes-l))
+
+-- the two books after an addition of zone 0, and of another zone
 line-added : (zb lb : List ℕ) (setting : ℕ) (dialect : List ℕ) {b p : ℕ} → addOf zb lb 0 setting dialect ≡ Placed b p
-    → lineAdded zb lb 0 setting dialect ≡ putEntry lb p (entryOf 0 setting dialect)
-unfolding addOf lineAdded lineAfter
-line-added zb lb setting dialect e = ap (λ (a : Changed). after a (entryOf 0 setting dialect) lb) e
+    → (zoneAdded zb lb 0 setting dialect ≡ zb)
+    × (lineAdded zb lb 0 setting dialect ≡ putEntry lb p (entryOf 0 setting dialect))
+line-added zb lb setting dialect {b} {p} e =
+    (added-other zb lb 0 setting dialect, book-added zb lb 0 setting dialect b p e)
 
 zone-added : (zb lb : List ℕ) (n setting : ℕ) (dialect : List ℕ) {b p : ℕ}
     → addOf zb lb (suc n) setting dialect ≡ Placed b p
-    → zoneAdded zb lb (suc n) setting dialect ≡ putEntry zb p (entryOf (suc n) setting dialect)
-unfolding zoneAdded zoneAfter
-zone-added zb lb n setting dialect e = rw (off n, e) refl
+    → (zoneAdded zb lb (suc n) setting dialect ≡ putEntry zb p (entryOf (suc n) setting dialect))
+    × (lineAdded zb lb (suc n) setting dialect ≡ lb)
+zone-added zb lb n setting dialect {b} {p} e = (
+  rw (off n) at (book-added zb lb (suc n) setting dialect b p e),
+  rw (off n) at (added-other zb lb (suc n) setting dialect),
+)
 
-line-removed : (zb lb : List ℕ) (setting : ℕ) {b p : ℕ} → removeOf zb lb 0 setting ≡ Placed b p
-    → lineRemoved zb lb 0 setting ≡ putEntry lb p noEntryBytes
-unfolding removeOf lineRemoved lineAfter
-line-removed zb lb setting e = ap (λ (a : Changed). after a noEntryBytes lb) e
-
-zone-removed : (zb lb : List ℕ) (n setting : ℕ) {b p : ℕ} → removeOf zb lb (suc n) setting ≡ Placed b p
-    → zoneRemoved zb lb (suc n) setting ≡ putEntry zb p noEntryBytes
-unfolding zoneRemoved zoneAfter
-zone-removed zb lb n setting e = rw (off n, e) refl
-
--- the other book stays
-zone-stays : (zb lb : List ℕ) (setting : ℕ) (dialect : List ℕ) → zoneAdded zb lb 0 setting dialect ≡ zb
-unfolding zoneAdded zoneAfter
-zone-stays zb lb setting dialect = refl
-
-line-stays : (zb lb : List ℕ) (n setting : ℕ) (dialect : List ℕ) → lineAdded zb lb (suc n) setting dialect ≡ lb
-unfolding lineAdded lineAfter
-line-stays zb lb n setting dialect = rw (off n) refl
-
-zone-left : (zb lb : List ℕ) (setting : ℕ) → zoneRemoved zb lb 0 setting ≡ zb
-unfolding zoneRemoved zoneAfter
-zone-left zb lb setting = refl
-
-line-left : (zb lb : List ℕ) (n setting : ℕ) → lineRemoved zb lb (suc n) setting ≡ lb
-unfolding lineRemoved lineAfter
-line-left zb lb n setting = rw (off n) refl
+in-zone-book : (zb lb : List ℕ) (n setting : ℕ) (dialect : List ℕ) {b p : ℕ}
+    → addOf zb lb (suc n) setting dialect ≡ Placed b p → setting < 4294967296
+    → Added false zb (suc n) setting dialect b p
+in-zone-book zb lb n setting dialect {b} {p} e small = rw (off n) at (in-book zb lb (suc n) setting dialect b p e small)
 
 -- DEMAND 4: after an addition the lookup at that zone and setting gives the bytes added
 pub added-found : (zb lb : List ℕ) (zone setting : ℕ) (dialect : List ℕ) (b p : ℕ)
@@ -127,17 +153,16 @@ pub added-found : (zb lb : List ℕ) (zone setting : ℕ) (dialect : List ℕ) (
     ≡ toldIn zone (placeAt p + 6))
     × (partOf (lookupOf (zoneAdded zb lb zone setting dialect) (lineAdded zb lb zone setting dialect) zone setting)
     (zoneAdded zb lb zone setting dialect) (lineAdded zb lb zone setting dialect) ≡ dialect)
-unfolding addOf
 added-found zb lb zero setting dialect b p e small bytes-z bytes-l both =
-    let found = add-line-found zb lb setting dialect b p e small bytes-l
-    (added-small true lb 0 setting dialect b p e) (both .zone) in
-    rw (line-added zb lb setting dialect e, zone-stays zb lb setting dialect) (found .0, rw (found .0) (found .1))
+    let a : Added true lb 0 setting dialect b p = in-book zb lb 0 setting dialect b p e small in
+    let found = add-line-found a bytes-l (both .zone) in
+    let now = line-added zb lb setting dialect e in
+    rw (now .0, now .1) (found, rw found (add-bytes a))
 added-found zb lb (suc n) setting dialect b p e small bytes-z bytes-l both =
-    let f = sym (add-is zb lb n setting dialect) ∙ e in
-    let found = add-zone-found zb lb (suc n) setting dialect b p f (own n) small bytes-z
-    (added-small false zb (suc n) setting dialect b p f) (both .line) in
-    rw (zone-added zb lb n setting dialect e, line-stays zb lb n setting dialect, off n)
-    (found .0, rw (found .0) (found .1))
+    let a : Added false zb (suc n) setting dialect b p = in-zone-book zb lb n setting dialect e small in
+    let found = add-zone-found a bytes-z (both .line) in
+    let now = zone-added zb lb n setting dialect e in
+    rw (now .0, now .1, off n) (found, rw found (add-bytes a))
 
 -- every lookup that does not reach the new place is unchanged
 pub added-elsewhere : (zb lb : List ℕ) (zone setting : ℕ) (dialect : List ℕ) (b p : ℕ)
@@ -146,61 +171,14 @@ pub added-elsewhere : (zb lb : List ℕ) (zone setting : ℕ) (dialect : List �
     → (Reaches zone z asked (zoneAdded zb lb zone setting dialect) (lineAdded zb lb zone setting dialect) p → ⊥)
     → lookupOf (zoneAdded zb lb zone setting dialect) (lineAdded zb lb zone setting dialect) z asked
     ≡ lookupOf zb lb z asked
-unfolding addOf
 added-elsewhere zb lb zero setting dialect b p e small bytes-z bytes-l both z asked =
-    rw (line-added zb lb setting dialect e, zone-stays zb lb setting dialect) (λ other.
-    add-line-elsewhere zb lb setting dialect b p e small bytes-l (added-small true lb 0 setting dialect b p e)
-    (both .zone) z asked other)
+    let a : Added true lb 0 setting dialect b p = in-book zb lb 0 setting dialect b p e small in
+    let now = line-added zb lb setting dialect e in
+    rw (now .0, now .1) (add-line-elsewhere a bytes-l (both .zone) z asked)
 added-elsewhere zb lb (suc n) setting dialect b p e small bytes-z bytes-l both z asked =
-    let f = sym (add-is zb lb n setting dialect) ∙ e in
-    rw (zone-added zb lb n setting dialect e, line-stays zb lb n setting dialect, off n) (λ other.
-    add-zone-elsewhere zb lb (suc n) setting dialect b p f (own n) small bytes-z
-    (added-small false zb (suc n) setting dialect b p f) (both .line) z asked other)
-
--- removing the entry that was just added finds it, and restores both books byte for byte
-pub record Restored (zb lb : List ℕ) (zone setting : ℕ) (answer : Changed) (zb′ lb′ : List ℕ) : Type 0 where
-  pub answered : removeOf zb′ lb′ zone setting ≡ answer
-  pub zoneBook : zoneRemoved zb′ lb′ zone setting ≡ zb
-  pub lineBook : lineRemoved zb′ lb′ zone setting ≡ lb
-
-restored-line : (zb lb : List ℕ) (setting b p : ℕ) (new : List ℕ) → removeIn true new 0 setting ≡ Placed b p
-    → putEntry new p noEntryBytes ≡ lb → Restored zb lb 0 setting (Placed b p) zb new
-unfolding removeOf zoneRemoved zoneAfter lineRemoved lineAfter
-restored-line zb lb setting b p new found back = record {
-  answered = found;
-  zoneBook = refl;
-  lineBook = ap (λ (a : Changed). after a noEntryBytes new) found ∙ back;
-}
-
-restored-zone : (zb lb : List ℕ) (n setting b p : ℕ) (new : List ℕ) → removeIn false new (suc n) setting ≡ Placed b p
-    → putEntry new p noEntryBytes ≡ zb → Restored zb lb (suc n) setting (Placed b p) new lb
-restored-zone zb lb n setting b p new found back =
-    let answer : removeOf new lb (suc n) setting ≡ Placed b p = remove-is new lb n setting ∙ found in record {
-      answered = answer;
-      zoneBook = zone-removed new lb n setting answer ∙ back;
-      lineBook = line-left new lb n setting;
-    }
-
-pub added-removed : (zb lb : List ℕ) (zone setting : ℕ) (dialect : List ℕ) (b p : ℕ)
-    → addOf zb lb zone setting dialect ≡ Placed b p → setting < 4294967296 → Bytes zb → Bytes lb
-    → Restored zb lb zone setting (Placed b p) (zoneAdded zb lb zone setting dialect)
-    (lineAdded zb lb zone setting dialect)
-unfolding addOf
-added-removed zb lb zero setting dialect b p e small bytes-z bytes-l =
-    let d = added-small true lb 0 setting dialect b p e in
-    let number : bookNumber true ≡ b = sym (added-book true lb 0 setting dialect b p e) in
-    let found = add-then-remove true lb 0 setting dialect b p e refl small bytes-l d in
-    rw (line-added zb lb setting dialect e, zone-stays zb lb setting dialect)
-    (restored-line zb lb setting b p (putEntry lb p (entryOf 0 setting dialect)) (rw number at found)
-    (add-remove true lb 0 setting dialect b p e refl small bytes-l d))
-added-removed zb lb (suc n) setting dialect b p e small bytes-z bytes-l =
-    let f = sym (add-is zb lb n setting dialect) ∙ e in
-    let d = added-small false zb (suc n) setting dialect b p f in
-    let number : bookNumber false ≡ b = sym (added-book false zb (suc n) setting dialect b p f) in
-    let found = add-then-remove false zb (suc n) setting dialect b p f (own n) small bytes-z d in
-    rw (zone-added zb lb n setting dialect e, line-stays zb lb n setting dialect)
-    (restored-zone zb lb n setting b p (putEntry zb p (entryOf (suc n) setting dialect)) (rw number at found)
-    (add-remove false zb (suc n) setting dialect b p f (own n) small bytes-z d))
+    let a : Added false zb (suc n) setting dialect b p = in-zone-book zb lb n setting dialect e small in
+    let now = zone-added zb lb n setting dialect e in
+    rw (now .0, now .1, off n) (add-zone-elsewhere a bytes-z (both .line) z asked)
 
 -- adding the entry that was just removed is accepted, and gives the same set of entries
 pub record AddedBack (zb lb : List ℕ) (zone setting : ℕ) (dialect zb′ lb′ : List ℕ) : Type 0 where
@@ -212,90 +190,96 @@ pub record AddedBack (zb lb : List ℕ) (zone setting : ℕ) (dialect zb′ lb�
       (bookOf zone (zoneAdded zb′ lb′ zone setting dialect) (lineAdded zb′ lb′ zone setting dialect))
       (bookOf zone zb lb)
 
-back-zone : (zb lb gone : List ℕ) (n setting : ℕ) (dialect : List ℕ) (q : ℕ)
-    → addOf gone lb (suc n) setting dialect ≡ Placed 0 q → AllHeld zb (zoneAdded gone lb (suc n) setting dialect)
-    → AllHeld (zoneAdded gone lb (suc n) setting dialect) zb → AddedBack zb lb (suc n) setting dialect gone lb
-back-zone zb lb gone n setting dialect q answer there back = record {
-  place = q;
-  accepts = rw (off n) answer;
-  there = rw (off n) there;
-  back = rw (off n) back;
-}
+-- a removal answers for the entry's book
+module _ (zb lb : List ℕ) (zone setting : ℕ) where
+  remove-is : removeOf zb lb zone setting ≡ removeIn (isLine zone) (bookOf zone zb lb) zone setting
+  unfolding removeOf
+  remove-is = go (isLine zone)
+    where
+      go : (t : Bool) → if' t (λ _. removeIn true lb zone setting) (λ _. removeIn false zb zone setting)
+          ≡ removeIn t (if' t (λ _. lb) (λ _. zb)) zone setting
+      go true = refl
+      go false = refl
 
-pub removed-added : (zb lb : List ℕ) (zone setting b p : ℕ) → removeOf zb lb zone setting ≡ Placed b p
-    → setting < 4294967296 → Bytes zb → Bytes lb
-    → AddedBack zb lb zone setting (dialectOf (entryAt (bookOf zone zb lb) p)) (zoneRemoved zb lb zone setting)
-    (lineRemoved zb lb zone setting)
-unfolding addOf removeOf
-removed-added zb lb zero setting b p e small bytes-z bytes-l =
-    let r = removed-one true lb 0 setting b p e in
-    let a = remove-again true lb 0 setting b p r bytes-l in
-    let gone : List ℕ = putEntry lb p noEntryBytes in
-    let new = line-added zb gone setting (dialectOf (entryAt lb p)) (a .is) in
-    rw (line-removed zb lb setting e, zone-left zb lb setting) record {
-      place = a .place;
-      accepts = a .is;
-      there = rw new (remove-add true lb 0 setting b p 1 (a .place) r bytes-l refl small (a .is));
-      back = rw new (remove-add-back true lb 0 setting b p 1 (a .place) r bytes-l refl small (a .is));
-    }
-removed-added zb lb (suc n) setting b p e small bytes-z bytes-l =
-    let r = removed-one false zb (suc n) setting b p (sym (remove-is zb lb n setting) ∙ e) in
-    let a = remove-again false zb (suc n) setting b p r bytes-z in
-    let gone : List ℕ = putEntry zb p noEntryBytes in
-    let dialect : List ℕ = dialectOf (entryAt zb p) in
-    let answer : addOf gone lb (suc n) setting dialect ≡ Placed 0 (a .place) =
-    add-is gone lb n setting dialect ∙ a .is in
-    let new = zone-added gone lb n setting dialect answer in
-    rw (zone-removed zb lb n setting e, line-left zb lb n setting, off n)
-    (back-zone zb lb gone n setting dialect (a .place) answer
-    (rw new (remove-add false zb (suc n) setting b p 0 (a .place) r bytes-z (own n) small (a .is)))
-    (rw new (remove-add-back false zb (suc n) setting b p 0 (a .place) r bytes-z (own n) small (a .is))))
+  -- the two books after a removal
+  abbrev zb⁻ : List ℕ
+  zb⁻ = zoneRemoved zb lb zone setting
 
--- after a removal an addition to that book is never 98: another entry of zone 0, or of a zone that is not 0
-pub removed-room : (zb lb : List ℕ) (zone setting b p : ℕ) → removeOf zb lb zone setting ≡ Placed b p
-    → (z s : ℕ) (dialect : List ℕ) → isLine z ≡ isLine zone
-    → addOf (zoneRemoved zb lb zone setting) (lineRemoved zb lb zone setting) z s dialect ≡ Bare 98 → ⊥
-unfolding addOf removeOf
-removed-room zb lb zero setting b p e zero s dialect same =
-    rw (line-removed zb lb setting e)
-    (remove-room true lb 0 setting b p (removed-one true lb 0 setting b p e) 0 s dialect)
-removed-room zb lb zero setting b p e (suc m) s dialect same = λ f. clash same (off m)
-removed-room zb lb (suc n) setting b p e zero s dialect same = λ f. clash (sym same) (off n)
-removed-room zb lb (suc n) setting b p e (suc m) s dialect same = λ f.
-    let r = removed-one false zb (suc n) setting b p (sym (remove-is zb lb n setting) ∙ e) in
-    let gone = zone-removed zb lb n setting e in
-    let g : addOf (putEntry zb p noEntryBytes) (lineRemoved zb lb (suc n) setting) (suc m) s dialect ≡ Bare 98 =
-    rw gone at f in
-    remove-room false zb (suc n) setting b p r (suc m) s dialect
-    (sym (add-is (putEntry zb p noEntryBytes) (lineRemoved zb lb (suc n) setting) m s dialect) ∙ g)
+  abbrev lb⁻ : List ℕ
+  lb⁻ = lineRemoved zb lb zone setting
 
--- DEMAND 5: the resulting books pass 95 and 96
-pub added-passes : (zb lb : List ℕ) (zone setting : ℕ) (dialect : List ℕ) (b p : ℕ)
+  -- the other book is not changed
+  pub removed-other : otherOf zone zb⁻ lb⁻ ≡ otherOf zone zb lb
+  unfolding zoneRemoved lineRemoved
+  removed-other = other-after zone (removeOf zb lb zone setting) noEntryBytes zb lb
+
+  module _ (b p : ℕ) (e : removeOf zb lb zone setting ≡ Placed b p) where
+    book-removed : bookOf zone zb⁻ lb⁻ ≡ putEntry (bookOf zone zb lb) p noEntryBytes
+    unfolding zoneRemoved lineRemoved
+    book-removed = own-after zone (removeOf zb lb zone setting) noEntryBytes zb lb ∙ rw e refl
+
+    from-book : Removed (isLine zone) (bookOf zone zb lb) zone setting p
+    from-book = removed-one (sym remove-is ∙ e)
+
+    -- only the place and its block's sum change
+    pub removed-apart : SameApart p (bookOf zone zb⁻ lb⁻) (bookOf zone zb lb)
+    removed-apart = rw book-removed (λ j n apart.
+        put-outside (bookOf zone zb lb) p noEntryBytes (from-book .inside) refl j n (apart .place) (apart .sum))
+
+    -- DEMAND 5: the resulting book passes 95 and 96
+    pub removed-passes : Bytes zb → Bytes lb → Passing (isLine zone) (bookOf zone zb⁻ lb⁻)
+    removed-passes bytes-z bytes-l = rw book-removed (remove-passes from-book (own-bytes zone zb lb bytes-z bytes-l))
+
+    -- after a removal an addition to that book is never 98: another entry of zone 0, or of a zone that is not 0
+    pub removed-room : (z s : ℕ) (dialect : List ℕ) → isLine z ≡ isLine zone → addOf zb⁻ lb⁻ z s dialect ≡ Bare 98 → ⊥
+    removed-room z s dialect same f = remove-room from-book z s dialect
+        (rw (same, book-removed) at (sym (add-is zb⁻ lb⁻ z s dialect) ∙ f))
+
+    -- the dialect of the entry that was removed
+    abbrev dialect⁻ : List ℕ
+    dialect⁻ = dialectOf (entryAt (bookOf zone zb lb) p)
+
+    module _ (small : setting < 4294967296) (bytes-z : Bytes zb) (bytes-l : Bytes lb) where
+      again : Again (isLine zone) (without from-book) zone setting dialect⁻
+      again = remove-again from-book (own-bytes zone zb lb bytes-z bytes-l)
+
+      accepts-again : addOf zb⁻ lb⁻ zone setting dialect⁻ ≡ Placed (bookNumber (isLine zone)) (again .place)
+      accepts-again = add-is zb⁻ lb⁻ zone setting dialect⁻ ∙ rw book-removed (again .is)
+
+      pub removed-added : AddedBack zb lb zone setting dialect⁻ zb⁻ lb⁻
+      removed-added =
+          let bytes = own-bytes zone zb lb bytes-z bytes-l in
+          let a = added (own zone) small (again .is) in
+          let now = book-added zb⁻ lb⁻ zone setting dialect⁻ (bookNumber (isLine zone)) (again .place) accepts-again in
+          record {
+            place = again .place;
+            accepts = accepts-again;
+            there = rw (now, book-removed) (remove-add from-book bytes a);
+            back = rw (now, book-removed) (remove-add-back from-book bytes a);
+          }
+
+-- removing the entry that was just added finds it, and restores both books byte for byte
+pub record Restored (zb lb : List ℕ) (zone setting : ℕ) (answer : Changed) (zb′ lb′ : List ℕ) : Type 0 where
+  pub answered : removeOf zb′ lb′ zone setting ≡ answer
+  pub zoneBook : zoneRemoved zb′ lb′ zone setting ≡ zb
+  pub lineBook : lineRemoved zb′ lb′ zone setting ≡ lb
+
+pub added-removed : (zb lb : List ℕ) (zone setting : ℕ) (dialect : List ℕ) (b p : ℕ)
     → addOf zb lb zone setting dialect ≡ Placed b p → setting < 4294967296 → Bytes zb → Bytes lb
-    → Passing (isLine zone)
-    (bookOf zone (zoneAdded zb lb zone setting dialect) (lineAdded zb lb zone setting dialect))
-unfolding addOf
-added-passes zb lb zero setting dialect b p e small bytes-z bytes-l =
-    rw (line-added zb lb setting dialect e)
-    (add-passes true lb 0 setting dialect b p (added true lb 0 setting dialect b p e) refl small bytes-l
-    (added-small true lb 0 setting dialect b p e))
-added-passes zb lb (suc n) setting dialect b p e small bytes-z bytes-l =
-    let f = sym (add-is zb lb n setting dialect) ∙ e in
-    rw (zone-added zb lb n setting dialect e, off n)
-    (add-passes false zb (suc n) setting dialect b p (added false zb (suc n) setting dialect b p f) (own n) small
-    bytes-z (added-small false zb (suc n) setting dialect b p f))
-
-pub removed-passes : (zb lb : List ℕ) (zone setting b p : ℕ) → removeOf zb lb zone setting ≡ Placed b p
-    → Bytes zb → Bytes lb
-    → Passing (isLine zone) (bookOf zone (zoneRemoved zb lb zone setting) (lineRemoved zb lb zone setting))
-unfolding removeOf
-removed-passes zb lb zero setting b p e bytes-z bytes-l =
-    rw (line-removed zb lb setting e)
-    (remove-passes true lb 0 setting b p (removed-one true lb 0 setting b p e) bytes-l)
-removed-passes zb lb (suc n) setting b p e bytes-z bytes-l =
-    let f = sym (remove-is zb lb n setting) ∙ e in
-    rw (zone-removed zb lb n setting e, off n)
-    (remove-passes false zb (suc n) setting b p (removed-one false zb (suc n) setting b p f) bytes-z)
+    → Restored zb lb zone setting (Placed b p) (zoneAdded zb lb zone setting dialect)
+    (lineAdded zb lb zone setting dialect)
+added-removed zb lb zone setting dialect b p e small bytes-z bytes-l =
+    let zb′ : List ℕ = zoneAdded zb lb zone setting dialect in
+    let lb′ : List ℕ = lineAdded zb lb zone setting dialect in
+    let a = in-book zb lb zone setting dialect b p e small in
+    let bytes = own-bytes zone zb lb bytes-z bytes-l in
+    let new-book = book-added zb lb zone setting dialect b p e in
+    let found : removeOf zb′ lb′ zone setting ≡ Placed b p = remove-is zb′ lb′ zone setting
+    ∙ rw (new-book, a .number) (add-then-remove a bytes) in
+    let back : bookOf zone (zoneRemoved zb′ lb′ zone setting) (lineRemoved zb′ lb′ zone setting) ≡ bookOf zone zb lb =
+    book-removed zb′ lb′ zone setting b p found ∙ rw new-book (add-remove a bytes) in
+    let both = both-same zone back (removed-other zb′ lb′ zone setting ∙ added-other zb lb zone setting dialect) in
+    record { answered = found; zoneBook = both .0; lineBook = both .1 }
 
 pub blanked-passes : (line : Bool) (book : List ℕ) → blankOf (length book) ≡ 0 → Passing line (blankAfter book)
 unfolding blankOf blankAfter
@@ -310,35 +294,6 @@ blanked-passes line book = go (soundLength (length book)) refl
         (leb-true (length book / 512) 100 (and-right (leb 1 (length book / 512)) _ whole))
     go false t-is e = absurd (omega arith)
 
--- only the place and its block's sum change, and the other book stays
-pub added-apart : (zb lb : List ℕ) (zone setting : ℕ) (dialect : List ℕ) (b p : ℕ)
-    → addOf zb lb zone setting dialect ≡ Placed b p → setting < 4294967296
-    → SameApart p (bookOf zone (zoneAdded zb lb zone setting dialect) (lineAdded zb lb zone setting dialect))
-    (bookOf zone zb lb)
-unfolding addOf
-added-apart zb lb zero setting dialect b p e small =
-    let a = added true lb 0 setting dialect b p e in
-    rw (line-added zb lb setting dialect e) (λ j n apart.
-    put-outside lb p (entryOf 0 setting dialect) (a .inside) (long true lb 0 setting dialect b p a refl small) j n
-    (apart .place) (apart .sum))
-added-apart zb lb (suc n) setting dialect b p e small =
-    let a = added false zb (suc n) setting dialect b p (sym (add-is zb lb n setting dialect) ∙ e) in
-    rw (zone-added zb lb n setting dialect e, off n) (λ j m apart.
-    put-outside zb p (entryOf (suc n) setting dialect) (a .inside)
-    (long false zb (suc n) setting dialect b p a (own n) small) j m (apart .place) (apart .sum))
-
-pub removed-apart : (zb lb : List ℕ) (zone setting b p : ℕ) → removeOf zb lb zone setting ≡ Placed b p
-    → SameApart p (bookOf zone (zoneRemoved zb lb zone setting) (lineRemoved zb lb zone setting)) (bookOf zone zb lb)
-unfolding removeOf
-removed-apart zb lb zero setting b p e =
-    let r = removed-one true lb 0 setting b p e in
-    rw (line-removed zb lb setting e) (λ j n apart.
-    put-outside lb p noEntryBytes (r .inside) refl j n (apart .place) (apart .sum))
-removed-apart zb lb (suc n) setting b p e =
-    let r = removed-one false zb (suc n) setting b p (sym (remove-is zb lb n setting) ∙ e) in
-    rw (zone-removed zb lb n setting e, off n) (λ j m apart.
-    put-outside zb p noEntryBytes (r .inside) refl j m (apart .place) (apart .sum))
-
 -- a refusal changes no book
 abbrev pub IsRefused : Changed → Type 0
 IsRefused a = (b p : ℕ) → a ≡ Placed b p → ⊥
@@ -351,47 +306,30 @@ after-refused (Bare n) e book other = refl
 pub added-refused : (zb lb : List ℕ) (zone setting : ℕ) (dialect : List ℕ)
     → IsRefused (addOf zb lb zone setting dialect)
     → (zoneAdded zb lb zone setting dialect ≡ zb) × (lineAdded zb lb zone setting dialect ≡ lb)
-unfolding zoneAdded lineAdded zoneAfter lineAfter
-added-refused zb lb zero setting dialect other =
-    (refl, after-refused (addOf zb lb 0 setting dialect) (entryOf 0 setting dialect) lb other)
-added-refused zb lb (suc n) setting dialect other = rw (off n)
-    (after-refused (addOf zb lb (suc n) setting dialect) (entryOf (suc n) setting dialect) zb other, refl)
+unfolding zoneAdded lineAdded
+added-refused zb lb zone setting dialect other =
+    let answer : Changed = addOf zb lb zone setting dialect in
+    let e : List ℕ = entryOf zone setting dialect in
+    both-same zone (own-after zone answer e zb lb ∙ after-refused answer e (bookOf zone zb lb) other)
+    (other-after zone answer e zb lb)
 
 pub removed-refused : (zb lb : List ℕ) (zone setting : ℕ) → IsRefused (removeOf zb lb zone setting)
     → (zoneRemoved zb lb zone setting ≡ zb) × (lineRemoved zb lb zone setting ≡ lb)
-unfolding zoneRemoved lineRemoved zoneAfter lineAfter
-removed-refused zb lb zero setting other = (refl, after-refused (removeOf zb lb 0 setting) noEntryBytes lb other)
-removed-refused zb lb (suc n) setting other = rw (off n)
-    (after-refused (removeOf zb lb (suc n) setting) noEntryBytes zb other, refl)
+unfolding zoneRemoved lineRemoved
+removed-refused zb lb zone setting other =
+    let answer : Changed = removeOf zb lb zone setting in
+    both-same zone
+    (own-after zone answer noEntryBytes zb lb ∙ after-refused answer noEntryBytes (bookOf zone zb lb) other)
+    (other-after zone answer noEntryBytes zb lb)
 
--- the other book is not read and not changed
+-- the other book is not read
 pub add-unread : (zb lb zb′ lb′ : List ℕ) (zone setting : ℕ) (dialect : List ℕ)
     → bookOf zone zb lb ≡ bookOf zone zb′ lb′
     → addOf zb lb zone setting dialect ≡ addOf zb′ lb′ zone setting dialect
-unfolding addOf
-add-unread zb lb zb′ lb′ zero setting dialect e = ap (λ (x : List ℕ). addIn true x 0 setting dialect) e
-add-unread zb lb zb′ lb′ (suc n) setting dialect e =
-    let same : zb ≡ zb′ = rw (off n) at e in
-    rw (off n) (ap (λ (x : List ℕ). addIn false x (suc n) setting dialect) same)
+add-unread zb lb zb′ lb′ zone setting dialect e =
+    add-is zb lb zone setting dialect ∙ rw e (sym (add-is zb′ lb′ zone setting dialect))
 
 pub remove-unread : (zb lb zb′ lb′ : List ℕ) (zone setting : ℕ) → bookOf zone zb lb ≡ bookOf zone zb′ lb′
     → removeOf zb lb zone setting ≡ removeOf zb′ lb′ zone setting
-unfolding removeOf
-remove-unread zb lb zb′ lb′ zero setting e = ap (λ (x : List ℕ). removeIn true x 0 setting) e
-remove-unread zb lb zb′ lb′ (suc n) setting e =
-    let same : zb ≡ zb′ = rw (off n) at e in
-    rw (off n) (ap (λ (x : List ℕ). removeIn false x (suc n) setting) same)
-
--- the book that the entry does not belong to
-abbrev pub otherOf : ℕ → List ℕ → List ℕ → List ℕ
-otherOf zone zb lb = if' (isLine zone) (λ _. zb) (λ _. lb)
-
-pub added-other : (zb lb : List ℕ) (zone setting : ℕ) (dialect : List ℕ)
-    → otherOf zone (zoneAdded zb lb zone setting dialect) (lineAdded zb lb zone setting dialect) ≡ otherOf zone zb lb
-added-other zb lb zero setting dialect = zone-stays zb lb setting dialect
-added-other zb lb (suc n) setting dialect = rw (off n) (line-stays zb lb n setting dialect)
-
-pub removed-other : (zb lb : List ℕ) (zone setting : ℕ)
-    → otherOf zone (zoneRemoved zb lb zone setting) (lineRemoved zb lb zone setting) ≡ otherOf zone zb lb
-removed-other zb lb zero setting = zone-left zb lb setting
-removed-other zb lb (suc n) setting = rw (off n) (line-left zb lb n setting)
+remove-unread zb lb zb′ lb′ zone setting e =
+    remove-is zb lb zone setting ∙ rw e (sym (remove-is zb′ lb′ zone setting))

@@ -5,16 +5,16 @@
 -- same place. The books are computed, and so are the tests that each byte is below 256 and that only one place has an
 -- entry of zone 7. Assumes nothing.
 use mathlib.Core.Path.{_≡_, refl, sym, _∙_}
-use mathlib.Core.Bool.{Bool, true, false, _&&_, _||_, not}
-use mathlib.Core.List.{List, [], _∷_}
-use Prim.Native.Nat.{ℕ, zero, suc, _<_}
+use mathlib.Core.Bool.{Bool, true, false, _||_, not}
+use mathlib.Core.List.{List, _∷_}
+use Prim.Native.Nat.{ℕ, _<_}
 use native.Mathlib.Omega.{arith}
 use lib.ListN.{replicate}
-use lib.Dec.{eqb, ltb}
-use borrow.Author.Tests.{ltb-true, eqb-true, eq-eqb}
+use lib.Dec.{eqb}
+use borrow.Author.Tests.{eqb-true, eq-eqb}
 use Rattle.fields.specs.Field.{field, bytesOf}
 use Rattle.fields.specs.Over.{over}
-use Rattle.fields.proofs.Basics.{never, clash, and-left, and-right}
+use Rattle.fields.proofs.Basics.{never, clash}
 use Rattle.fields.proofs.Spelling.{Bytes}
 use Rattle.dialect.specs.Bytes.{within, validBytes}
 use Rattle.blocks.specs.Block.{weighed, sumOf, beforeSum, blockOf, zeros, examine, judge}
@@ -30,6 +30,7 @@ use Rattle.books.specs.Change.{blankBlocks, blankOf, blankAfter}
 use Rattle.books.proofs.Laws.{every-stop}
 use Rattle.booked.specs.Said.{Passing, NoneFits, Tells, Within, Keeps, BothPass}
 use Rattle.booked.proofs.Lookups.{zone-tells, line-tells, nothing-fits, same-part, same-place}
+use Rattle.booked.proofs.Changes.{tested-bytes}
 use Rattle.booked.proofs.Booked.{added-found, added-elsewhere, Restored, added-removed, AddedBack, removed-added}
 use Rattle.booked.proofs.Booked.{added-refused, removed-refused, blanked-passes}
 
@@ -47,24 +48,19 @@ seven = putEntry blank 0 (entryOf 7 3 dialect)
 abbrev pub common : List ℕ
 common = putEntry blank 0 (entryOf 0 3 dialect)
 
--- bytes below 256, by a test of each
-abbrev small : List ℕ → Bool
-small [] = true
-small (x ∷ l) = ltb x 256 && small l
-
-small-bytes : (l : List ℕ) → small l ≡ true → Bytes l
-small-bytes [] e i = omega arith
-small-bytes (x ∷ l) e zero = ltb-true x 256 (and-left (ltb x 256) (small l) e)
-small-bytes (x ∷ l) e (suc i) = small-bytes l (and-right (ltb x 256) (small l) e) i
+-- what computes a book and judges it: to unfold this is to unfold all of these
+unfoldable judging : Bool
+unfolding field bytesOf over within validBytes weighed sumOf beforeSum blockOf zeros examine judge blocksFor judgeBlocks
+    judgeRun every some entryAt soundEntry soundPlace soundPlaces soundBook isFor seenIn seenBefore again twiceIn
+    blankBlocks entryOf renewed putEntry
+judging = true
 
 pub blank-bytes : Bytes blank
 unfolding field bytesOf over weighed sumOf beforeSum blockOf blankBlocks
-blank-bytes = small-bytes blank refl
+blank-bytes = tested-bytes blank refl
 
 pub blank-both : BothPass blank blank
-unfolding field bytesOf over within validBytes weighed sumOf beforeSum blockOf zeros examine judge blocksFor judgeBlocks
-    judgeRun every some entryAt soundEntry soundPlace soundPlaces soundBook isFor seenIn seenBefore again twiceIn
-    blankBlocks
+unfolding judging
 blank-both =
     record { zone = record { sound = refl; once = refl }; line = record { sound = refl; once = refl } }
 
@@ -75,16 +71,12 @@ blanked = blanked-passes false (replicate 512 255) refl
 
 -- an addition that is accepted: the zone book, place 0
 pub accepts : addOf blank blank 7 3 dialect ≡ Placed 0 0
-unfolding field bytesOf over within validBytes weighed sumOf beforeSum blockOf zeros examine judge blocksFor judgeBlocks
-    judgeRun every some entryAt soundEntry soundPlace soundPlaces soundBook isFor seenIn seenBefore again twiceIn
-    blankBlocks firstIn emptyAt placeToAdd addIn addOf
+unfolding judging firstIn emptyAt placeToAdd addIn addOf
 accepts = refl
 
 -- the books after it
 pub is-added : (zoneAdded blank blank 7 3 dialect ≡ seven) × (lineAdded blank blank 7 3 dialect ≡ blank)
-unfolding field bytesOf over within validBytes weighed sumOf beforeSum blockOf zeros examine judge blocksFor judgeBlocks
-    judgeRun every some entryAt soundEntry soundPlace soundPlaces soundBook isFor seenIn seenBefore again twiceIn
-    blankBlocks entryOf renewed putEntry firstIn emptyAt placeToAdd addIn addOf zoneAfter lineAfter zoneAdded lineAdded
+unfolding judging firstIn emptyAt placeToAdd addIn addOf zoneAfter lineAfter zoneAdded lineAdded
 is-added = (refl, refl)
 
 -- DEMAND 4 applies: the lookup gives its nine bytes, which begin at byte 10 of the zone book
@@ -96,10 +88,7 @@ found = added-found blank blank 7 3 dialect 0 0 accepts (omega arith) blank-byte
 -- a lookup of zone 8 does not reach the place, and is unchanged
 pub elsewhere : lookupOf (zoneAdded blank blank 7 3 dialect) (lineAdded blank blank 7 3 dialect) 8 5
     ≡ lookupOf blank blank 8 5
-unfolding field bytesOf over within validBytes weighed sumOf beforeSum blockOf zeros examine judge blocksFor judgeBlocks
-    judgeRun every some entryAt soundEntry soundPlace soundPlaces soundBook isFor seenIn seenBefore again twiceIn
-    blankBlocks entryOf renewed putEntry firstIn emptyAt placeToAdd addIn addOf zoneAfter lineAfter zoneAdded lineAdded
-    fits bestSetting bestIn
+unfolding judging firstIn emptyAt placeToAdd addIn addOf zoneAfter lineAfter zoneAdded lineAdded fits bestSetting bestIn
 elsewhere = added-elsewhere blank blank 7 3 dialect 0 0 accepts (omega arith) blank-bytes blank-bytes blank-both 8 5
     (λ (reaches : 0 ≡ 1). absurd (omega arith))
 
@@ -111,12 +100,10 @@ restored = added-removed blank blank 7 3 dialect 0 0 accepts (omega arith) blank
 -- a removal that is accepted; adding the removed entry is accepted too
 pub seven-bytes : Bytes seven
 unfolding field bytesOf over weighed sumOf beforeSum blockOf blankBlocks entryOf renewed putEntry
-seven-bytes = small-bytes seven refl
+seven-bytes = tested-bytes seven refl
 
 pub removes : removeOf seven blank 7 3 ≡ Placed 0 0
-unfolding field bytesOf over within validBytes weighed sumOf beforeSum blockOf zeros examine judge blocksFor judgeBlocks
-    judgeRun every some entryAt soundEntry soundPlace soundPlaces soundBook isFor seenIn seenBefore again twiceIn
-    blankBlocks entryOf renewed putEntry firstIn forAt removeIn removeOf
+unfolding judging firstIn forAt removeIn removeOf
 removes = refl
 
 pub added-back : AddedBack seven blank 7 3 (dialectOf (entryAt seven 0)) (zoneRemoved seven blank 7 3)
@@ -125,9 +112,7 @@ added-back = removed-added seven blank 7 3 0 0 removes (omega arith) seven-bytes
 
 -- DEMAND 5 on refusals: the same entry again is 96, removing a missing one is 97, and no book changes
 pub twice : addOf seven blank 7 3 dialect ≡ Refused 96 0
-unfolding field bytesOf over within validBytes weighed sumOf beforeSum blockOf zeros examine judge blocksFor judgeBlocks
-    judgeRun every some entryAt soundEntry soundPlace soundPlaces soundBook isFor seenIn seenBefore again twiceIn
-    blankBlocks entryOf renewed putEntry firstIn emptyAt placeToAdd addIn addOf
+unfolding judging firstIn emptyAt placeToAdd addIn addOf
 twice = refl
 
 pub twice-stays : (zoneAdded seven blank 7 3 dialect ≡ seven) × (lineAdded seven blank 7 3 dialect ≡ blank)
@@ -135,9 +120,7 @@ twice-stays = added-refused seven blank 7 3 dialect (λ b p e.
     let no : Refused 96 0 ≡ Placed b p = sym twice ∙ e in never (cc))
 
 pub missing : removeOf blank blank 7 3 ≡ Bare 97
-unfolding field bytesOf over within validBytes weighed sumOf beforeSum blockOf zeros examine judge blocksFor judgeBlocks
-    judgeRun every some entryAt soundEntry soundPlace soundPlaces soundBook isFor seenIn seenBefore again twiceIn
-    blankBlocks entryOf renewed putEntry firstIn forAt removeIn removeOf
+unfolding judging firstIn forAt removeIn removeOf
 missing = refl
 
 pub missing-stays : (zoneRemoved blank blank 7 3 ≡ blank) × (lineRemoved blank blank 7 3 ≡ blank)
@@ -146,39 +129,29 @@ missing-stays = removed-refused blank blank 7 3 (λ b p e.
 
 -- LOOKUPS: one above the setting gives the same place, one below it is 97; with the entry in the line book, that entry
 pub seven-passing : Passing false seven
-unfolding field bytesOf over within validBytes weighed sumOf beforeSum blockOf zeros examine judge blocksFor judgeBlocks
-    judgeRun every some entryAt soundEntry soundPlace soundPlaces soundBook isFor seenIn seenBefore again twiceIn
-    blankBlocks entryOf renewed putEntry
+unfolding judging
 seven-passing = record { sound = refl; once = refl }
 
 pub common-passing : Passing true common
-unfolding field bytesOf over within validBytes weighed sumOf beforeSum blockOf zeros examine judge blocksFor judgeBlocks
-    judgeRun every some entryAt soundEntry soundPlace soundPlaces soundBook isFor seenIn seenBefore again twiceIn
-    blankBlocks entryOf renewed putEntry
+unfolding judging
 common-passing = record { sound = refl; once = refl }
 
 pub told-above : lookupOf seven blank 7 5 ≡ Zone 10
-unfolding field bytesOf over within validBytes weighed sumOf beforeSum blockOf zeros examine judge blocksFor judgeBlocks
-    judgeRun every some entryAt soundEntry soundPlace soundPlaces soundBook isFor seenIn seenBefore again twiceIn
-    blankBlocks entryOf renewed putEntry fits bestSetting bestIn lookupOf
+unfolding judging fits bestSetting bestIn lookupOf
 told-above = refl
 
 pub tells-above : Tells 7 5 seven 10
 tells-above = zone-tells seven-passing (blank-both .line) 7 5 10 told-above
 
 pub told-below : lookupOf seven blank 7 2 ≡ Nothing
-unfolding field bytesOf over within validBytes weighed sumOf beforeSum blockOf zeros examine judge blocksFor judgeBlocks
-    judgeRun every some entryAt soundEntry soundPlace soundPlaces soundBook isFor seenIn seenBefore again twiceIn
-    blankBlocks entryOf renewed putEntry fits bestSetting bestIn lookupOf
+unfolding judging fits bestSetting bestIn lookupOf
 told-below = refl
 
 pub none-below : NoneFits 7 2 seven × NoneFits 0 2 blank
 none-below = nothing-fits seven-passing (blank-both .line) 7 2 told-below
 
 pub told-common : lookupOf blank common 7 3 ≡ Line 10
-unfolding field bytesOf over within validBytes weighed sumOf beforeSum blockOf zeros examine judge blocksFor judgeBlocks
-    judgeRun every some entryAt soundEntry soundPlace soundPlaces soundBook isFor seenIn seenBefore again twiceIn
-    blankBlocks entryOf renewed putEntry fits bestSetting bestIn lookupOf
+unfolding judging fits bestSetting bestIn lookupOf
 told-common = refl
 
 pub tells-common : NoneFits 7 3 blank × Tells 0 3 common 10
@@ -206,21 +179,15 @@ only-there book at all p inside taken zoned = go (eqb p at) refl
         clash all (every-stop (elsewhereNone book at) (placesOf book) p inside no)
 
 pub first-passing : Passing false sevenFirst
-unfolding field bytesOf over within validBytes weighed sumOf beforeSum blockOf zeros examine judge blocksFor judgeBlocks
-    judgeRun every some entryAt soundEntry soundPlace soundPlaces soundBook isFor seenIn seenBefore again twiceIn
-    blankBlocks entryOf renewed putEntry
+unfolding judging
 first-passing = record { sound = refl; once = refl }
 
 pub last-passing : Passing false sevenLast
-unfolding field bytesOf over within validBytes weighed sumOf beforeSum blockOf zeros examine judge blocksFor judgeBlocks
-    judgeRun every some entryAt soundEntry soundPlace soundPlaces soundBook isFor seenIn seenBefore again twiceIn
-    blankBlocks entryOf renewed putEntry
+unfolding judging
 last-passing = record { sound = refl; once = refl }
 
 pub first-in-last : Within 7 sevenFirst sevenLast
-unfolding field bytesOf over within validBytes weighed sumOf beforeSum blockOf zeros examine judge blocksFor judgeBlocks
-    judgeRun every some entryAt soundEntry soundPlace soundPlaces soundBook isFor seenIn seenBefore again twiceIn
-    blankBlocks entryOf renewed putEntry
+unfolding judging
 first-in-last = record {
   held = λ p inside taken zoned.
       let here : p ≡ 0 = only-there sevenFirst 0 refl p inside taken zoned in
@@ -228,9 +195,7 @@ first-in-last = record {
 }
 
 pub last-in-first : Within 7 sevenLast sevenFirst
-unfolding field bytesOf over within validBytes weighed sumOf beforeSum blockOf zeros examine judge blocksFor judgeBlocks
-    judgeRun every some entryAt soundEntry soundPlace soundPlaces soundBook isFor seenIn seenBefore again twiceIn
-    blankBlocks entryOf renewed putEntry
+unfolding judging
 last-in-first = record {
   held = λ p inside taken zoned.
       let here : p ≡ 1 = only-there sevenLast 1 refl p inside taken zoned in
@@ -239,9 +204,7 @@ last-in-first = record {
 
 -- the places differ, and the bytes are the same
 pub places-differ : (lookupOf sevenFirst blank 7 3 ≡ Zone 10) × (lookupOf sevenLast blank 7 3 ≡ Zone 34)
-unfolding field bytesOf over within validBytes weighed sumOf beforeSum blockOf zeros examine judge blocksFor judgeBlocks
-    judgeRun every some entryAt soundEntry soundPlace soundPlaces soundBook isFor seenIn seenBefore again twiceIn
-    blankBlocks entryOf renewed putEntry fits bestSetting bestIn lookupOf
+unfolding judging fits bestSetting bestIn lookupOf
 places-differ = (refl, refl)
 
 pub bytes-same : partOf (lookupOf sevenFirst blank 7 3) sevenFirst blank
@@ -250,18 +213,14 @@ bytes-same = same-part first-passing last-passing (blank-both .line) 7 3 first-i
 
 -- at the same place: with the entry of zone 9 and without it
 pub kept-there : Keeps 7 seven sevenFirst
-unfolding field bytesOf over within validBytes weighed sumOf beforeSum blockOf zeros examine judge blocksFor judgeBlocks
-    judgeRun every some entryAt soundEntry soundPlace soundPlaces soundBook isFor seenIn seenBefore again twiceIn
-    blankBlocks entryOf renewed putEntry
+unfolding judging
 kept-there = record {
   kept = λ p inside taken zoned.
       let here : p ≡ 0 = only-there seven 0 refl p inside taken zoned in rw here (omega arith, refl);
 }
 
 pub kept-back : Keeps 7 sevenFirst seven
-unfolding field bytesOf over within validBytes weighed sumOf beforeSum blockOf zeros examine judge blocksFor judgeBlocks
-    judgeRun every some entryAt soundEntry soundPlace soundPlaces soundBook isFor seenIn seenBefore again twiceIn
-    blankBlocks entryOf renewed putEntry
+unfolding judging
 kept-back = record {
   kept = λ p inside taken zoned.
       let here : p ≡ 0 = only-there sevenFirst 0 refl p inside taken zoned in rw here (omega arith, refl);

@@ -41,6 +41,13 @@ zeros-take (suc n) (x ∷ l) e =
     and-both (eqb x 0) (zeros (take n l)) (and-left (eqb x 0) (zeros l) e)
     (zeros-take n l (and-right (eqb x 0) (zeros l) e))
 
+-- a piece of 504 zero bytes
+piece-zeros : (l : List ℕ) (i : ℕ) → i < 21 → zeros (take 504 l) ≡ true → zeros (take 24 (drop (24 * i) l)) ≡ true
+piece-zeros l i h all =
+    let cut : take 24 (drop (24 * i) (take 504 l)) ≡ take 24 (drop (24 * i) l) =
+    ap (take 24) (drop-take (24 * i) 504 l) ∙ take-take 24 (504 - 24 * i) (drop (24 * i) l) (omega arith) in
+    rw (← cut) (zeros-take 24 (drop (24 * i) (take 504 l)) (zeros-drop (24 * i) (take 504 l) all))
+
 -- the bytes from the beginning of a block on
 pub record Begins (book : List ℕ) (j : ℕ) : Type 0 where
   pub rest : List ℕ
@@ -78,26 +85,18 @@ module _ (line : Bool) (n : ℕ) (some : 1 ≤ n) (most : n ≤ 100) where
       let p = block-passes j none fits (bytes-zeros 504) (omega arith) (b .rest) in
       rw (b .is) (passing j 504 (blockOf j none ++ b .rest) p)
 
-  one-place : (p : ℕ) → p < 21 * n → zeros (entryAt (blankBlocks n) p) ≡ true
+  block-zeros : (j : ℕ) → j < n → zeros (take 504 (drop 4 (drop (512 * j) (blankBlocks n)))) ≡ true
   unfolding zeros
-  one-place p h =
+  block-zeros j h =
+      let b : Begins (blankBlocks n) j = blank-drop n j h in rw (b .is, content-there j none fits (b .rest)) refl
+
+  place-zeros : (p : ℕ) → p < 21 * n → zeros (entryAt (blankBlocks n) p) ≡ true
+  place-zeros p h =
       let j : ℕ = p / 21 in
       let i : ℕ = p % 21 in
-      let b : Begins (blankBlocks n) (p / 21) = blank-drop n (p / 21) (omega arith) in
-      let tail : List ℕ = drop 4 (blockOf (p / 21) none ++ b .rest) in
-      let content : take 504 tail ≡ none ++ replicate (504 - length none) 0 =
-      content-there (p / 21) none fits (b .rest) in
-      let all : zeros (take 504 tail) ≡ true = rw content refl in
-      let room : 24 * (p % 21) + 24 ≤ 504 = omega arith in
-      let cut : take 24 (drop (24 * (p % 21)) (take 504 tail)) ≡ take 24 (drop (24 * (p % 21)) tail) =
-      ap (take 24) (drop-take (24 * (p % 21)) 504 tail)
-      ∙ take-take 24 (504 - 24 * (p % 21)) (drop (24 * (p % 21)) tail) (omega arith) in
-      let at : 21 * (p / 21) + p % 21 ≡ p = omega arith in
-      let there : entryAt (blankBlocks n) p ≡ take 24 (drop (24 * (p % 21)) tail) =
-      ap (entryAt (blankBlocks n)) (sym at) ∙ sym (place-piece (blankBlocks n) (p / 21) (p % 21) (omega arith))
-      ∙ ap (λ (l : List ℕ). take 24 (drop (24 * (p % 21)) (drop 4 l))) (b .is) in
-      rw (there, ← cut) (zeros-take 24 (drop (24 * (p % 21)) (take 504 tail))
-      (zeros-drop (24 * (p % 21)) (take 504 tail) all))
+      let at : 21 * j + i ≡ p = omega arith in
+      let piece = piece-zeros (drop 4 (drop (512 * j) (blankBlocks n))) i (omega arith) (block-zeros j (omega arith)) in
+      rw (place-piece (blankBlocks n) j i (omega arith), at) at piece
 
   -- THEOREM 5: an empty book passes
   pub blank-passes : Passing line (blankBlocks n)
@@ -114,9 +113,9 @@ module _ (line : Bool) (n : ℕ) (some : 1 ≤ n) (most : n ≤ 100) where
       let blocks : soundBlocks book ≡ true = each-run book (λ j h. one-block j (rw blocks-are at h)) in
       let places : every (λ p. soundPlace line (entryAt book p)) (placesOf book) ≡ true =
       every-all (λ p. soundPlace line (entryAt book p)) (placesOf book)
-      (λ p h. rw (one-place p (rw blocks-are at h)) refl) in
+      (λ p h. rw (place-zeros p (rw blocks-are at h)) refl) in
       record {
         sound = and-both (soundLength (length book)) _ size (and-both (soundBlocks book) _ blocks places);
-        once = apart-once book (placesOf book)
-            (λ p q g h taken-p taken-q zones settings. clash (one-place p (rw blocks-are at h)) taken-p);
+        once = apart-once book (placesOf book) (λ p q g h alike.
+            clash (place-zeros p (rw blocks-are at h)) (alike .other));
       }

@@ -11,8 +11,6 @@ use native.Mathlib.Nat.{add-zero, zero-add}
 use native.Mathlib.Omega.{arith}
 use lib.ListN.{length, take, drop, length-take, length-drop, take-append-drop, drop-of-length-le}
 use lib.Seq.{length-take-le, take-take, drop-drop}
-use lib.Dec.{eqb}
-use borrow.Author.Tests.{eqb-true}
 use Rattle.fields.specs.Field.{field, bytesOf}
 use Rattle.fields.proofs.Basics.{never, clash, drop-take, le-or-lt, and-left, and-right, and-both}
 use Rattle.fields.proofs.Fields.{field-drop, field-take}
@@ -22,16 +20,24 @@ use Rattle.blocks.specs.Block.{sumOf, zeros}
 use Rattle.blocks.specs.Run.{blocksFor, judgeBlocks, judgeRun}
 use Rattle.blocks.proofs.Sums.{weighed-front, sum-small}
 use Rattle.blocks.proofs.Blocks.{Passing as Block, passing-then, passes as block-passes}
-use Rattle.books.specs.Book.{every, some, placesOf, placeAt, entryAt, zoneOf, settingOf, soundLength, passes}
+use Rattle.books.specs.Book.{every, placesOf, placeAt, entryAt, zoneOf, settingOf, soundLength, passes}
 use Rattle.books.specs.Book.{soundBlocks, soundPlace, soundPlaces, soundBook, isFor, seenIn, seenBefore, again, twiceIn}
 use Rattle.fields.specs.Over.{over}
-use Rattle.books.specs.Change.{blockAt, renewed, putEntry}
-use Rattle.books.proofs.Laws.{every-stop}
+use Rattle.books.specs.Change.{noEntryBytes, blockAt, renewed, putEntry}
 use Rattle.fields.proofs.Over.{length-over}
-use Rattle.books.proofs.Laws.{some-none}
+use Rattle.books.proofs.Laws.{every-stop, some-none}
+use Rattle.books.proofs.Marking.{for-parts}
 use Rattle.booked.specs.Said.{Passing}
-use Rattle.booked.proofs.Parts.{part-before, part-behind, part-same, put-length, put-same, put-other}
-use Rattle.booked.proofs.Best.{apart, places-sound}
+use Rattle.booked.proofs.Parts.{part-before, part-behind, part-same, put-length, put-places, put-same}
+use Rattle.booked.proofs.Parts.{put-other}
+use Rattle.booked.proofs.Best.{Alike, alike-back, apart, places-sound}
+
+-- two numbers are equal or not
+pub same-or-other : (a b : ℕ) → (a ≡ b) ⊎ (a ≡ b → ⊥)
+same-or-other a b = ⊎-elim
+    (λ (h : a ≤ b). ⊎-elim (λ (k : b ≤ a). let e : a ≡ b = omega arith in inl e)
+    (λ (k : a < b). inr (λ (e : a ≡ b). omega arith)) (le-or-lt b a))
+    (λ (h : b < a). inr (λ (e : a ≡ b). omega arith)) (le-or-lt a b)
 
 -- a run of full blocks passes exactly if each block does
 blocks-each : (n number : ℕ) (bs : List ℕ) → judgeBlocks n number (504 * n) bs ≡ accepted [] → (j : ℕ) → j < n
@@ -210,14 +216,10 @@ module _ (book : List ℕ) (p : ℕ) (e : List ℕ) (h : p < placesOf book) (lon
       let inside : j < length book / 512 = rw new-long at g in
       let old : Block j 504 (drop (512 * j) book) = run-each book s j inside in
       ⊎-elim
-      (λ (q : k ≤ j). ⊎-elim
-      (λ (r : j ≤ k). let same : j ≡ k = omega arith in rw same (own-block (rw same at old)))
-      (λ (r : k < j). block-same j (drop (512 * j) book) (drop (512 * j) new)
-      (other-block j inside (λ x. omega arith)) (simp length-drop (omega (arith, new-long))) old)
-      (le-or-lt j k))
-      (λ (q : j < k). block-same j (drop (512 * j) book) (drop (512 * j) new)
-      (other-block j inside (λ x. omega arith)) (simp length-drop (omega (arith, new-long))) old)
-      (le-or-lt k j))
+      (λ (same : j ≡ k). rw same (own-block (rw same at old)))
+      (λ (other : j ≡ k → ⊥). block-same j (drop (512 * j) book) (drop (512 * j) new) (other-block j inside other)
+      (simp length-drop (omega (arith, new-long))) old)
+      (same-or-other j k))
 
 -- tests at all places
 pub every-all : (test : ℕ → Bool) (n : ℕ) → ((p : ℕ) → p < n → test p ≡ true) → every test n ≡ true
@@ -233,84 +235,64 @@ every-at test n e p h = go (test p) refl
     go true f = f
     go false f = clash e (every-stop test n p h f)
 
-pub same-or-other : (a b : ℕ) → (a ≡ b) ⊎ (a ≡ b → ⊥)
-same-or-other a b = ⊎-elim
-    (λ (h : a ≤ b). ⊎-elim (λ (k : b ≤ a). let e : a ≡ b = omega arith in inl e)
-    (λ (k : a < b). inr (λ (e : a ≡ b). omega arith)) (le-or-lt b a))
-    (λ (h : b < a). inr (λ (e : a ≡ b). omega arith)) (le-or-lt a b)
-
--- no zone and setting occurs twice: two places with the same are one place
+-- no zone and setting occurs twice, if no two entries are alike
 pub apart-once : (book : List ℕ) (n : ℕ)
-    → ((p q : ℕ) → q < p → p < n → zeros (entryAt book p) ≡ false → zeros (entryAt book q) ≡ false
-    → zoneOf (entryAt book q) ≡ zoneOf (entryAt book p) → settingOf (entryAt book q) ≡ settingOf (entryAt book p) → ⊥)
-    → twiceIn book n ≡ false
-unfolding twiceIn again seenBefore seenIn isFor
-apart-once book n f = some-none (again book) n
-    (λ p h. here p h (zeros (entryAt book p)) refl)
+    → ((p q : ℕ) → q < p → p < n → Alike (entryAt book q) (entryAt book p) → ⊥) → twiceIn book n ≡ false
+unfolding twiceIn again seenBefore seenIn
+apart-once book n f = some-none (again book) n (λ p h. here p h (zeros (entryAt book p)) refl)
   where
-    one : (p q : ℕ) → p < n → q < p → zeros (entryAt book p) ≡ false → (x : Bool) → zeros (entryAt book q) ≡ x
-        → (y : Bool) → eqb (zoneOf (entryAt book q)) (zoneOf (entryAt book p)) ≡ y
-        → (z : Bool) → eqb (settingOf (entryAt book q)) (settingOf (entryAt book p)) ≡ z
-        → (not x && (y && z)) ≡ false
-    one p q h g taken true x-is y y-is z z-is = refl
-    one p q h g taken false x-is false y-is z z-is = refl
-    one p q h g taken false x-is true y-is false z-is = refl
-    one p q h g taken false x-is true y-is true z-is = absurd
-        (f p q g h taken x-is (eqb-true (zoneOf (entryAt book q)) (zoneOf (entryAt book p)) y-is)
-        (eqb-true (settingOf (entryAt book q)) (settingOf (entryAt book p)) z-is))
+    one : (p q : ℕ) → p < n → q < p → zeros (entryAt book p) ≡ false → (t : Bool)
+        → isFor (zoneOf (entryAt book p)) (settingOf (entryAt book p)) (entryAt book q) ≡ t → t ≡ false
+    one p q h g taken false e = refl
+    one p q h g taken true e =
+        let same = for-parts e in
+        absurd (f p q g h record { taken = same.taken; other = taken; zones = same.zoned; settings = same.set })
 
-    here : (p : ℕ) → p < n → (x : Bool) → zeros (entryAt book p) ≡ x
-        → (not x && some (λ q. not (zeros (entryAt book q)) && (eqb (zoneOf (entryAt book q)) (zoneOf (entryAt book p))
-        && eqb (settingOf (entryAt book q)) (settingOf (entryAt book p)))) p) ≡ false
+    here : (p : ℕ) → p < n → (x : Bool) → zeros (entryAt book p) ≡ x → (not x && seenBefore book p) ≡ false
     here p h true x-is = refl
     here p h false x-is = some-none
-        (λ q. not (zeros (entryAt book q)) && (eqb (zoneOf (entryAt book q)) (zoneOf (entryAt book p))
-        && eqb (settingOf (entryAt book q)) (settingOf (entryAt book p)))) p
-        (λ q g. one p q h g x-is (zeros (entryAt book q)) refl
-        (eqb (zoneOf (entryAt book q)) (zoneOf (entryAt book p))) refl
-        (eqb (settingOf (entryAt book q)) (settingOf (entryAt book p))) refl)
+        (λ q. isFor (zoneOf (entryAt book p)) (settingOf (entryAt book p)) (entryAt book q)) p
+        (λ q g. one p q h g x-is (isFor (zoneOf (entryAt book p)) (settingOf (entryAt book p)) (entryAt book q)) refl)
 
 -- an entry that no other place of a book has
 pub record Fresh (book : List ℕ) (p : ℕ) (e : List ℕ) : Type 0 where
-  pub alone : zeros e ≡ false → (q : ℕ) → q < placesOf book → (q ≡ p → ⊥) → zeros (entryAt book q) ≡ false
-      → zoneOf (entryAt book q) ≡ zoneOf e → settingOf (entryAt book q) ≡ settingOf e → ⊥
+  pub alone : (q : ℕ) → q < placesOf book → (q ≡ p → ⊥) → Alike (entryAt book q) e → ⊥
+
+-- an empty place repeats no entry
+pub none-fresh : (book : List ℕ) (p : ℕ) → Fresh book p noEntryBytes
+unfolding zeros
+none-fresh book p = record { alone = λ q h other alike. clash refl (alike .other) }
 
 module _ {line : Bool} {book : List ℕ} (b : Passing line book) (p : ℕ) (e : List ℕ) (h : p < placesOf book)
     (long : length e ≡ 24) where
-  places-same : placesOf (putEntry book p e) ≡ placesOf book
-  places-same = ap (λ (n : ℕ). 21 * (n / 512)) (put-length book p e h long)
-
-  put-places : soundPlace line e ≡ true → soundPlaces line (putEntry book p e) (placesOf (putEntry book p e)) ≡ true
+  put-sound : soundPlace line e ≡ true → soundPlaces line (putEntry book p e) (placesOf (putEntry book p e)) ≡ true
   unfolding soundPlaces
-  put-places s = rw places-same (every-all (λ q. soundPlace line (entryAt (putEntry book p e) q)) (placesOf book)
-      (λ q g. ⊎-elim
+  put-sound s = rw (put-places book p e h long) (every-all
+      (λ q. soundPlace line (entryAt (putEntry book p e) q)) (placesOf book) (λ q g. ⊎-elim
       (λ (same : q ≡ p). rw (same, put-same book p e h long) s)
       (λ (other : q ≡ p → ⊥). rw (put-other book p e h long q other)
       (every-at (λ r. soundPlace line (entryAt book r)) (placesOf book) (places-sound b) q g))
       (same-or-other q p)))
 
-  put-once : Fresh book p e → twiceIn (putEntry book p e) (placesOf (putEntry book p e)) ≡ false
-  put-once f = rw places-same (apart-once (putEntry book p e) (placesOf book)
-      (λ r q g i taken-r taken-q zones settings. ⊎-elim
+  -- two places of the new book: one is the new entry's, or both are old
+  put-apart : Fresh book p e → (r q : ℕ) → q < r → r < placesOf book
+      → Alike (entryAt (putEntry book p e) q) (entryAt (putEntry book p e) r) → ⊥
+  put-apart f r q g i alike = ⊎-elim
       (λ (same : r ≡ p).
       let other : q ≡ p → ⊥ = λ x. omega arith in
       let new : entryAt (putEntry book p e) r ≡ e = rw same (put-same book p e h long) in
-      let old : entryAt (putEntry book p e) q ≡ entryAt book q = put-other book p e h long q other in
-      f .alone (rw new at taken-r) q (omega arith) other (rw old at taken-q) (rw (new, old) at zones)
-      (rw (new, old) at settings))
-      (λ (other-r : r ≡ p → ⊥). ⊎-elim
+      f .alone q (omega arith) other (rw (new, put-other book p e h long q other) at alike))
+      (λ (other : r ≡ p → ⊥). ⊎-elim
       (λ (same : q ≡ p).
       let new : entryAt (putEntry book p e) q ≡ e = rw same (put-same book p e h long) in
-      let old : entryAt (putEntry book p e) r ≡ entryAt book r = put-other book p e h long r other-r in
-      f .alone (rw new at taken-q) r i other-r (rw old at taken-r) (sym (rw (new, old) at zones))
-      (sym (rw (new, old) at settings)))
-      (λ (other-q : q ≡ p → ⊥).
-      let old-r : entryAt (putEntry book p e) r ≡ entryAt book r = put-other book p e h long r other-r in
-      let old-q : entryAt (putEntry book p e) q ≡ entryAt book q = put-other book p e h long q other-q in
-      apart b r q g i (rw old-r at taken-r) (rw old-q at taken-q) (rw (old-r, old-q) at zones)
-      (rw (old-r, old-q) at settings))
+      f .alone r i other (alike-back (rw (new, put-other book p e h long r other) at alike)))
+      (λ (other-q : q ≡ p → ⊥). apart b r q g i
+      (rw (put-other book p e h long q other-q, put-other book p e h long r other) at alike))
       (same-or-other q p))
-      (same-or-other r p)))
+      (same-or-other r p)
+
+  put-once : Fresh book p e → twiceIn (putEntry book p e) (placesOf (putEntry book p e)) ≡ false
+  put-once f = rw (put-places book p e h long) (apart-once (putEntry book p e) (placesOf book) (put-apart f))
 
   -- THEOREM 5: the book passes again
   pub put-passes : Bytes book → Bytes e → soundPlace line e ≡ true → Fresh book p e → Passing line (putEntry book p e)
@@ -322,6 +304,6 @@ module _ {line : Bool} {book : List ℕ} (b : Passing line book) (p : ℕ) (e : 
       let length-so : soundLength (length (putEntry book p e)) ≡ true = rw (put-length book p e h long) l in
       record {
         sound = and-both (soundLength (length (putEntry book p e))) _ length-so
-            (and-both (soundBlocks (putEntry book p e)) _ (put-blocks book p e h long small small-e bl) (put-places s));
+            (and-both (soundBlocks (putEntry book p e)) _ (put-blocks book p e h long small small-e bl) (put-sound s));
         once = put-once f;
       }

@@ -164,10 +164,11 @@ module _ {zone asked : ℕ} {a b : List ℕ} where
     upto = rw (h .is) (f .upto);
   }
 
-none-moves : {zone asked : ℕ} {a b : List ℕ} → Within zone b a → NoneFits zone asked a → NoneFits zone asked b
+-- if the entries of b are in a, what holds of the fitting entries of a holds of those of b
+pub none-moves : {zone asked : ℕ} {a b : List ℕ} → Within zone b a → NoneFits zone asked a → NoneFits zone asked b
 none-moves w n q f = let h = fits-there w q f in n (h .place) (moved-fits q f h)
 
-highest-moves : {zone asked : ℕ} {a b : List ℕ} → Within zone b a → (p : ℕ) → Highest zone asked a p
+pub highest-moves : {zone asked : ℕ} {a b : List ℕ} → Within zone b a → (p : ℕ) → Highest zone asked a p
     → (h : Holds b (entryAt a p)) → Highest zone asked b (h .place)
 highest-moves {zone} {asked} {a} {b} w p high h = record {
   fitting = moved-fits p (high .fitting) h;

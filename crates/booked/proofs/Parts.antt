@@ -1,7 +1,7 @@
 -- The bytes of a book after a place is written and the sum of its block is renewed: the entry is at its place
--- (`put-same`), every other place is unchanged (`put-other`), and so is the length (`put-length`). A place and a sum
--- never overlap, and neither do two places (`places-apart`), so each part of the new book lies before, inside or
--- after the bytes that were written. Assumes nothing.
+-- (`put-same`), every other place is unchanged (`put-other`), and so are the length and the number of places
+-- (`put-length`, `put-places`). A place and a sum never overlap, and neither do two places (`places-apart`), so each
+-- part of the new book lies before, inside or after the bytes that were written. Assumes nothing.
 use mathlib.Core.Path.{_≡_, sym, ap, _∙_}
 use mathlib.Core.Logic.{_⊎_, ⊎-elim}
 use mathlib.Core.List.{List, _++_}
@@ -73,6 +73,9 @@ module _ (book : List ℕ) (p : ℕ) (e : List ℕ) (h : p < placesOf book) (lon
   pub put-length : length (putEntry book p e) ≡ length book
   unfolding putEntry renewed
   put-length = length-over (512 * (p / 21) + 508) check mid sum-room ∙ mid-long
+
+  pub put-places : placesOf (putEntry book p e) ≡ placesOf book
+  put-places = ap (λ (n : ℕ). 21 * (n / 512)) put-length
 
   -- the new sum lies in no place
   past-sum : (q : ℕ) → entryAt (putEntry book p e) q ≡ entryAt mid q

@@ -1,12 +1,13 @@
 -- Two books that pass, have the same length, and have the same entry at every place, are equal byte for byte
 -- (`same-book`). A block that passes is the block of its number and content (blocks' `passed-is-block`), and the
--- content is its 21 places. Lists that agree piece by piece are equal, by induction on the number of pieces: of 24
--- bytes in a content (`pieces24`), of 512 in a book (`pieces512`). So removing the entry that was just added restores
--- the book (Back's `add-remove`). Assumes nothing.
+-- content is its 21 places. Lists that agree piece by piece are equal, by induction on the number of pieces (`pieces`):
+-- 21 pieces of 24 bytes are a content (`same-content`), and the blocks are the book. So removing the entry that was
+-- just added restores the book (Back's `add-remove`). Assumes nothing.
 use mathlib.Core.Path.{_≡_, refl, sym, ap, _∙_}
 use mathlib.Core.Bool.{Bool, true}
 use mathlib.Core.List.{List}
 use Prim.Native.Nat.{ℕ, zero, suc, _+_, _*_, _-_, _/_, _%_, _<_}
+use native.Mathlib.Nat.{mul-zero, mul-suc}
 use native.Mathlib.Omega.{arith}
 use lib.ListN.{length, take, drop}
 use lib.Seq.{take-all, take-add, drop-drop}
@@ -20,35 +21,13 @@ use Rattle.books.specs.Book.{placesOf, placeAt, entryAt, soundLength, soundBloc
 use Rattle.booked.specs.Said.{Passing}
 use Rattle.booked.proofs.Kept.{run-each}
 
--- lists that agree piece by piece are equal
-pieces24 : (m : ℕ) (l k : List ℕ) → ((i : ℕ) → i < m → take 24 (drop (24 * i) l) ≡ take 24 (drop (24 * i) k))
-    → take (24 * m) l ≡ take (24 * m) k
-pieces24 zero l k f = refl
-pieces24 (suc m) l k f =
-    let n : 24 * suc m ≡ 24 * m + 24 = omega arith in
-    rw (
-      n,
-      take-add (24 * m) 24 l,
-      take-add (24 * m) 24 k,
-      pieces24 m l k (λ i h. f i (omega arith)),
-      f m
-          (omega arith),
-    ) refl
-
-pieces512 : (m : ℕ) (l k : List ℕ) → ((i : ℕ) → i < m → take 512 (drop (512 * i) l) ≡ take 512 (drop (512 * i) k))
-    → take (512 * m) l ≡ take (512 * m) k
-pieces512 zero l k f = refl
-pieces512 (suc m) l k f =
-    let n : 512 * suc m ≡ 512 * m + 512 = omega arith in
-    rw (
-      n,
-      take-add (512 * m) 512 l,
-      take-add (512 * m) 512 k,
-      pieces512 m l k (λ i h. f i (omega arith)),
-      f m
-          (omega arith),
-    )
-    refl
+-- lists that agree in their first m pieces of w bytes agree in those bytes
+pieces : (w m : ℕ) (l k : List ℕ) → ((i : ℕ) → i < m → take w (drop (w * i) l) ≡ take w (drop (w * i) k))
+    → take (w * m) l ≡ take (w * m) k
+pieces w zero l k f = rw (mul-zero w) refl
+pieces w (suc m) l k f =
+    let before : take (w * m) l ≡ take (w * m) k = pieces w m l k (λ i h. f i (omega arith)) in
+    rw (mul-suc w m, take-add (w * m) w l, take-add (w * m) w k, before, f m (omega arith)) refl
 
 -- a place of a block is a piece of its content
 pub place-piece : (book : List ℕ) (j i : ℕ) → i < 21
@@ -74,21 +53,26 @@ module _ {line : Bool} {book : List ℕ} (b : Passing line book) where
       let e : length book % 512 ≡ 0 = eqb-true (length book % 512) 0 (and-left (eqb (length book % 512) 0) _ l) in
       omega arith
 
--- THEOREM: the entries determine the book
-pub same-book : {line other : Bool} {a b : List ℕ} → Passing line a → Passing other b → Bytes a → Bytes b
-    → length a ≡ length b → ((p : ℕ) → p < placesOf a → entryAt a p ≡ entryAt b p) → a ≡ b
-same-book {line} {other} {a} {b} pa pb small-a small-b long same =
-    let n : ℕ = length a / 512 in
-    let each : (j : ℕ) → j < n → take 512 (drop (512 * j) a) ≡ take 512 (drop (512 * j) b) = λ j h.
-    let h-b : j < length b / 512 = rw (← long) h in
-    let content : take 504 (drop 4 (drop (512 * j) a)) ≡ take 504 (drop 4 (drop (512 * j) b)) =
-    pieces24 21 (drop 4 (drop (512 * j) a)) (drop 4 (drop (512 * j) b))
-    (λ i g. place-piece a j i g ∙ same (21 * j + i) (omega arith) ∙ sym (place-piece b j i g)) in
-    passed-is-block j 504 (drop (512 * j) a) (omega arith) (bytes-drop a (512 * j) small-a) (run-each a
-    (blocks-sound pa) j h)
-    ∙ ap (blockOf j) content
-    ∙ sym (passed-is-block j 504 (drop (512 * j) b) (omega arith) (bytes-drop b (512 * j) small-b)
-    (run-each b (blocks-sound pb) j h-b)) in
-    let all-a : take (512 * n) a ≡ a = take-all (512 * n) a (omega (arith, whole-blocks pa)) in
-    let all-b : take (512 * n) b ≡ b = take-all (512 * n) b (omega (arith, whole-blocks pa)) in
-    sym all-a ∙ pieces512 n a b each ∙ all-b
+-- two books that pass and have the same entry at every place
+module _ {line other : Bool} {a b : List ℕ} (pa : Passing line a) (pb : Passing other b) (small-a : Bytes a)
+    (small-b : Bytes b) (long : length a ≡ length b)
+    (same : (p : ℕ) → p < placesOf a → entryAt a p ≡ entryAt b p) where
+  same-content : (j : ℕ) → j < length a / 512
+      → take 504 (drop 4 (drop (512 * j) a)) ≡ take 504 (drop 4 (drop (512 * j) b))
+  same-content j h = pieces 24 21 (drop 4 (drop (512 * j) a)) (drop 4 (drop (512 * j) b))
+      (λ i g. place-piece a j i g ∙ same (21 * j + i) (omega arith) ∙ sym (place-piece b j i g))
+
+  same-block : (j : ℕ) → j < length a / 512 → take 512 (drop (512 * j) a) ≡ take 512 (drop (512 * j) b)
+  same-block j h =
+      let block-a = run-each a (blocks-sound pa) j h in
+      let block-b = run-each b (blocks-sound pb) j (rw (← long) h) in
+      passed-is-block j 504 (drop (512 * j) a) (omega arith) (bytes-drop a (512 * j) small-a) block-a
+      ∙ ap (blockOf j) (same-content j h)
+      ∙ sym (passed-is-block j 504 (drop (512 * j) b) (omega arith) (bytes-drop b (512 * j) small-b) block-b)
+
+  -- THEOREM: the entries determine the book
+  pub same-book : a ≡ b
+  same-book =
+      let n : ℕ = length a / 512 in
+      sym (take-all (512 * n) a (omega (arith, whole-blocks pa))) ∙ pieces 512 n a b same-block
+      ∙ take-all (512 * n) b (omega (arith, whole-blocks pa))

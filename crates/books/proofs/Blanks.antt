@@ -5,19 +5,15 @@
 -- (`blank-end`). `blank-refused` to `blank-made` are the returns of `blank`. Assumes nothing.
 use mathlib.Core.Path.{_≡_, refl, sym, ap, _∙_}
 use mathlib.Core.Bool.{Bool, true, false}
-use mathlib.Core.List.{List, [], _++_, append-assoc, append-nil}
+use mathlib.Core.List.{List, [], _++_, append-nil}
 use Prim.Native.Nat.{ℕ, zero, suc, _+_, _*_, _-_, _/_, _%_, _<_, _≤_}
-use native.Mathlib.Nat.{sub-zero, suc-sub-suc}
 use native.Mathlib.Numerals.{add-one}
 use native.Mathlib.Omega.{arith}
-use lib.ListN.{length, take, drop, replicate, length-append, length-replicate, drop-of-length-le}
-use lib.ListN.{replicate-append-replicate}
-use lib.Seq.{take-at}
+use lib.ListN.{length, drop, replicate, length-append, length-replicate, drop-of-length-le}
 use borrow.Author.Tests.{eqb-true}
 use lib.Dec.{eqb}
 use Rattle.fields.specs.Field.{bytesOf}
 use Rattle.fields.proofs.Basics.{and-left}
-use Rattle.fields.proofs.Spelling.{length-bytes}
 use Rattle.blocks.specs.Block.{sumOf, beforeSum, blockOf}
 use Rattle.blocks.proofs.Sums.{weighed-front}
 use Rattle.blocks.proofs.Blocks.{length-front, length-block}
@@ -28,44 +24,33 @@ use Rattle.blocks.proofs.Laying.{laid-fits}
 use Rattle.books.specs.Change.{blankBlocks, blankOf, blankAfter}
 use Rattle.fields.proofs.Over.{over-front, over-next, over-none, length-over}
 
-drop-zeros : (n k : ℕ) → drop k (replicate {A = ℕ} n 0) ≡ replicate (n - k) 0
-drop-zeros n zero = rw sub-zero refl
-drop-zeros zero (suc k) = sym (ap (λ (m : ℕ). replicate {A = ℕ} m 0) {x = 0 - suc k} {y = 0} (omega arith))
-drop-zeros (suc n) (suc k) = rw suc-sub-suc (drop-zeros n k)
-
 zeros-long : length (replicate {A = ℕ} 504 0) ≡ 504
 zeros-long = length-replicate {A = ℕ} 504 0
 
 module _ (k : ℕ) where
-  front-long : length (beforeSum k (replicate 504 0)) ≡ 508
-  front-long = length-front k (replicate 504 0) (omega (arith, zeros-long))
+  -- the bytes before the sum
+  abbrev front : List ℕ
+  front = beforeSum k (replicate 504 0)
 
-  front-is : beforeSum k (replicate 504 0) ≡ (bytesOf 2 k ++ bytesOf 2 504) ++ replicate 504 0
-  unfolding beforeSum
-  front-is = sym (append-assoc (bytesOf 2 k) (bytesOf 2 504) (replicate 504 0))
+  -- the number and 504 used bytes, written over zeros
+  head-laid : laidAt 0 (bytesOf 2 k ++ bytesOf 2 504) (replicate 512 0) ≡ front ++ replicate 4 0
+  unfolding laidAt over bytesOf beforeSum
+  head-laid = refl
+
+  -- the sum, written after them
+  sum-laid : (s : ℕ) → laidAt 508 (bytesOf 4 s) (front ++ replicate 4 0) ≡ front ++ bytesOf 4 s
+  unfolding laidAt over bytesOf beforeSum
+  sum-laid s = refl
 
   pub blank-block-is : {head b₁ check b₂ : List ℕ} {s : ℕ} → head ≡ bytesOf 2 k ++ bytesOf 2 504
       → b₁ ≡ laidAt 0 head (replicate 512 0) → s ≡ sumOf b₁ → check ≡ bytesOf 4 s → b₂ ≡ laidAt 508 check b₁
       → b₂ ≡ blockOf k (replicate 504 0)
-  unfolding blockOf sumOf over
-  blank-block-is {head} {b₁} {check} {b₂} {s} head-is b₁-is s-is check-is b₂-is =
-      let f : List ℕ = beforeSum k (replicate 504 0) in
-      let four : length head ≡ 4 = rw head-is (simp (length-append, length-bytes) refl) in
-      let whole : length (replicate {A = ℕ} 512 0) ≡ 512 = length-replicate {A = ℕ} 512 0 in
-      let b₁-so : b₁ ≡ over 0 head (replicate 512 0) = b₁-is ∙ laid-fits 0 head (replicate 512 0) (omega arith) in
-      let rest : drop 4 (replicate {A = ℕ} 512 0) ≡ replicate 504 0 ++ replicate 4 0 =
-      drop-zeros 512 4 ∙ sym (replicate-append-replicate {A = ℕ} 504 4 0) in
-      let laid : b₁ ≡ f ++ replicate 4 0 =
-      b₁-so ∙ over-front head (replicate 512 0) ∙ rw (four, rest, front-is, head-is)
-      (sym (append-assoc (bytesOf 2 k ++ bytesOf 2 504) (replicate 504 0) (replicate 4 0))) in
-      let sum : s ≡ sumOf f = s-is ∙ ap sumOf laid ∙ weighed-front 508 f (replicate 4 0) (omega (arith, front-long)) in
-      let long : length b₁ ≡ 512 = ap length laid ∙ simp (length-append, front-long, length-replicate {A = ℕ}) refl in
-      let check-so : check ≡ bytesOf 4 (sumOf f) = check-is ∙ ap (bytesOf 4) sum in
-      let end : 508 + length check ≡ 512 = ap (λ (x : List ℕ). 508 + length x) check-so
-      ∙ ap (λ (n : ℕ). 508 + n) (length-bytes 4 (sumOf f)) in
-      let none : drop (508 + length check) b₁ ≡ [] = drop-of-length-le b₁ {i = 508 + length check} (omega arith) in
-      let front : take 508 b₁ ≡ f = ap (take 508) laid ∙ take-at f (replicate 4 0) 508 front-long in
-      b₂-is ∙ laid-fits 508 check b₁ (omega arith) ∙ rw (none, front, append-nil, check-so) refl
+  unfolding blockOf sumOf
+  blank-block-is {b₁ = b₁} {s = s} head-is b₁-is s-is check-is b₂-is =
+      let long : length front ≡ 508 = length-front k (replicate 504 0) (omega (arith, zeros-long)) in
+      let laid : b₁ ≡ front ++ replicate 4 0 = b₁-is ∙ rw head-is head-laid in
+      let sum : s ≡ sumOf front = s-is ∙ ap sumOf laid ∙ weighed-front 508 front (replicate 4 0) (omega arith) in
+      b₂-is ∙ rw (check-is, laid, sum-laid, sum) refl
 
 pub blank-long : (k : ℕ) → length (blankBlocks k) ≡ 512 * k
 unfolding blankBlocks

@@ -7,7 +7,7 @@
 use mathlib.Core.Path.{_≡_, refl, sym, ap, _∙_}
 use mathlib.Core.Bool.{Bool, true, false, _&&_}
 use mathlib.Core.Logic.{⊎-elim}
-use mathlib.Core.List.{List, _++_}
+use mathlib.Core.List.{List}
 use Prim.Native.Nat.{ℕ, zero, suc, _+_, _*_, _-_, _/_, _<_, _≤_}
 use native.Mathlib.Numerals.{add-one}
 use native.Mathlib.Omega.{arith}
@@ -32,7 +32,6 @@ use Rattle.books.specs.Change.{putEntry, bookNumber, foundOr, placeToAdd
 use Rattle.books.specs.Change.{removeOf}
 use Rattle.books.specs.Change.{zoneAfter, lineAfter, zoneAdded, lineAdded, zoneRemoved, lineRemoved}
 use Rattle.books.specs.Change.{noEntryBytes}
-use Rattle.fields.proofs.Over.{over-front, over-next}
 
 -- a place that passes the test after places that do not is the first one
 first-keeps : (test : ℕ → Bool) (n p : ℕ) → p < n → firstIn test p ≡ 0 → test p ≡ true → firstIn test n ≡ suc p
@@ -127,33 +126,19 @@ pub find-end : {test : ℕ → Bool} {n first p : ℕ} → Finding test n first 
 find-end {test} {n} {first} {p} s h =
     let e : p ≡ n = omega (arith, s .upto) in record { is = rw e at (s .is); inside = rw e at (s .inside) }
 
+-- zone and setting, written over zeros, and then the dialect after them
+nine-laid : (zone setting : ℕ) (dialect : List ℕ) → length dialect ≡ 9
+    → laidAt 6 dialect (laidAt 2 (bytesOf 4 setting) (laidAt 0 (bytesOf 2 zone) (replicate 24 0)))
+    ≡ entryOf zone setting dialect
+unfolding entryOf laidAt over bytesOf
+nine-laid zone setting dialect nine = rw nine refl
+
 -- the 24 bytes of an entry
 pub entry-built : (zone setting : ℕ) (dialect : List ℕ) {z s o₁ o₂ o₃ : List ℕ} → length dialect ≡ 9
     → z ≡ bytesOf 2 zone → o₁ ≡ laidAt 0 z (replicate 24 0) → s ≡ bytesOf 4 setting → o₂ ≡ laidAt 2 s o₁
     → o₃ ≡ laidAt 6 dialect o₂ → o₃ ≡ entryOf zone setting dialect
-unfolding entryOf
-entry-built zone setting dialect {z} {s} {o₁} {o₂} {o₃} nine z-is o₁-is s-is o₂-is o₃-is =
-    let zs : List ℕ = replicate 24 0 in
-    let all : length zs ≡ 24 = length-replicate {A = ℕ} 24 0 in
-    let z-two : length z ≡ 2 = rw z-is (length-bytes 2 zone) in
-    let s-four : length s ≡ 4 = rw s-is (length-bytes 4 setting) in
-    let o₁-so : o₁ ≡ over 0 z zs = o₁-is ∙ laid-fits 0 z zs (omega arith) in
-    let o₁-long : length o₁ ≡ 24 = ap length o₁-is ∙ length-laid 0 z zs ∙ all in
-    let o₂-so : o₂ ≡ over 2 s o₁ = o₂-is ∙ laid-fits 2 s o₁ (omega arith) in
-    let o₂-long : length o₂ ≡ 24 = ap length o₂-is ∙ length-laid 2 s o₁ ∙ o₁-long in
-    let o₃-so : o₃ ≡ over 6 dialect o₂ = o₃-is ∙ laid-fits 6 dialect o₂ (omega arith) in
-    let six : length (z ++ s) ≡ 6 = simp length-append (omega arith) in
-    let at2 : 2 ≡ 0 + length z = omega arith in
-    let at6 : 6 ≡ 0 + length (z ++ s) = omega arith in
-    let long : length ((z ++ s) ++ dialect) ≡ 15 = simp length-append (omega (arith, six)) in
-    let first : over 2 s (over 0 z zs) ≡ over 0 (z ++ s) zs =
-    ap (λ (n : ℕ). over n s (over 0 z zs)) at2 ∙ over-next 0 z zs s in
-    let second : over 6 dialect (over 0 (z ++ s) zs) ≡ over 0 ((z ++ s) ++ dialect) zs =
-    ap (λ (n : ℕ). over n dialect (over 0 (z ++ s) zs)) at6 ∙ over-next 0 (z ++ s) zs dialect in
-    let whole : o₃ ≡ ((z ++ s) ++ dialect) ++ drop 15 zs =
-    o₃-so ∙ ap (over 6 dialect) (o₂-so ∙ ap (over 2 s) o₁-so ∙ first) ∙ second ∙ over-front ((z ++ s) ++ dialect) zs
-    ∙ ap (λ (n : ℕ). ((z ++ s) ++ dialect) ++ drop n zs) long in
-    whole ∙ rw (z-is, s-is) refl
+entry-built zone setting dialect nine z-is o₁-is s-is o₂-is o₃-is =
+    o₃-is ∙ rw (o₂-is, s-is, o₁-is, z-is) (nine-laid zone setting dialect nine)
 
 pub may-add-is : (zone setting : ℕ) (dialect : List ℕ) {v : Bool} → v ≡ validBytes dialect
     → (leb 1 setting && (leb zone 65535 && v)) ≡ mayAdd zone setting dialect

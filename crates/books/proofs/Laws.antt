@@ -4,7 +4,7 @@
 -- value. `book-length` to `judge-passed` are the tests of one book in their order, `look-zone` to `look-nothing`
 -- those of a lookup in both books. No induction is needed beyond these loops. Assumes nothing.
 use mathlib.Core.Path.{_≡_, refl, sym, ap, _∙_}
-use mathlib.Core.Bool.{Bool, true, false, _&&_, _||_, not}
+use mathlib.Core.Bool.{Bool, true, false, _&&_, _||_, not, and-false, or-true}
 use mathlib.Core.Logic.{⊎-elim}
 use mathlib.Core.List.{List}
 use Prim.Native.Nat.{ℕ, zero, suc, _+_, _*_, _-_, _/_, _<_, _≤_}
@@ -108,14 +108,6 @@ unfolding soundPlace
 sound-place-is line e x-is y-is = rw (x-is, y-is) refl
 
 -- a place that fails a test, and one that passes it
-and-false : (a : Bool) → (a && false) ≡ false
-and-false true = refl
-and-false false = refl
-
-or-true : (a : Bool) → (a || true) ≡ true
-or-true true = refl
-or-true false = refl
-
 pub every-stop : (test : ℕ → Bool) (n p : ℕ) → p < n → test p ≡ false → every test n ≡ false
 unfolding every
 every-stop test zero p h e = absurd (omega arith)

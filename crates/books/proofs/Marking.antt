@@ -13,7 +13,7 @@ use native.Mathlib.Omega.{arith}
 use lib.ListN.{length, take, drop, length-drop, length-set}
 use lib.Seq.{length-take-le, take-add}
 use lib.Dec.{eqb}
-use borrow.Author.Tests.{eqb-true, not-true}
+use borrow.Author.Tests.{eq-eqb, eqb-true, not-true}
 use Rattle.fields.specs.Choice.{if'}
 use Rattle.fields.specs.Field.{field, bytesOf}
 use Rattle.fields.proofs.Basics.{clash, and-left, and-right, le-or-lt}
@@ -57,16 +57,26 @@ module _ (book : List ℕ) (p : ℕ) {may : Bool} where
   unfolding seenBefore
   again-seen f e-is o-is w-is t-is = rw (f, ← e-is, ← o-is, ← w-is) t-is
 
--- the parts of an entry for a zone and a setting
-pub for-parts : (zone setting : ℕ) (e : List ℕ) → isFor zone setting e ≡ true
-    → (zeros e ≡ false) × (zoneOf e ≡ zone) × (settingOf e ≡ setting)
+-- an entry for a zone and a setting: it is not empty, and these are its zone and its setting
+pub record For (zone setting : ℕ) (e : List ℕ) : Type 0 where
+  pub taken : zeros e ≡ false
+  pub zoned : zoneOf e ≡ zone
+  pub set : settingOf e ≡ setting
+
+pub for-parts : {zone setting : ℕ} {e : List ℕ} → isFor zone setting e ≡ true → For zone setting e
 unfolding isFor
-for-parts zone setting e h =
-    let two = and-right (not (zeros e)) _ h in (
-      not-true (zeros e) (and-left (not (zeros e)) _ h),
-      eqb-true (zoneOf e) zone (and-left (eqb (zoneOf e) zone) _ two),
-      eqb-true (settingOf e) setting (and-right (eqb (zoneOf e) zone) _ two),
-    )
+for-parts {zone} {setting} {e} h =
+    let two = and-right (not (zeros e)) _ h in
+    record {
+      taken = not-true (zeros e) (and-left (not (zeros e)) _ h);
+      zoned = eqb-true (zoneOf e) zone (and-left (eqb (zoneOf e) zone) _ two);
+      set = eqb-true (settingOf e) setting (and-right (eqb (zoneOf e) zone) _ two);
+    }
+
+pub parts-for : {zone setting : ℕ} {e : List ℕ} → For zone setting e → isFor zone setting e ≡ true
+unfolding isFor
+parts-for {zone} {setting} {e} f =
+    rw (f .taken, eq-eqb (zoneOf e) zone (f .zoned), eq-eqb (settingOf e) setting (f .set)) refl
 
 -- the bytes of a place
 pub entry-there : (book : List ℕ) (p : ℕ) → p < placesOf book → length (entryAt book p) ≡ 24
@@ -82,10 +92,12 @@ key-spelled : (e : List ℕ) → length e ≡ 24 → Bytes e → bytesOf 2 (zone
 key-spelled e long small = rw (bytes-field 2 e 0 small (omega arith), bytes-field 4 e 2 small (omega arith))
     (sym (take-add 2 4 e))
 
-keys-same : (e f : List ℕ) → length e ≡ 24 → length f ≡ 24 → Bytes e → Bytes f → zoneOf e ≡ zoneOf f
-    → settingOf e ≡ settingOf f → keyOf e ≡ keyOf f
-keys-same e f long-e long-f small-e small-f zones settings =
-    sym (key-spelled e long-e small-e) ∙ rw (zones, settings) (key-spelled f long-f small-f)
+keys-same : (book : List ℕ) → Bytes book → {p q : ℕ} → p < placesOf book → q < placesOf book
+    → zoneOf (entryAt book q) ≡ zoneOf (entryAt book p) → settingOf (entryAt book q) ≡ settingOf (entryAt book p)
+    → keyOf (entryAt book q) ≡ keyOf (entryAt book p)
+keys-same book small {p} {q} h g zones settings =
+    sym (key-spelled (entryAt book q) (entry-there book q g) (entry-bytes book q small))
+    ∙ rw (zones, settings) (key-spelled (entryAt book p) (entry-there book p h) (entry-bytes book p small))
 
 -- as many marks as before
 noted-long : (marks e : List ℕ) → length (notedEntry marks e) ≡ length marks
@@ -124,13 +136,10 @@ module _ {book first marks : List ℕ} {p : ℕ} (s : Once book first marks p) w
         go : (t : Bool) → isFor (zoneOf (entryAt book p)) (settingOf (entryAt book p)) (entryAt book q) ≡ t → t ≡ false
         go false e = refl
         go true e =
-            let parts = for-parts (zoneOf (entryAt book p)) (settingOf (entryAt book p)) (entryAt book q) e in
-            let long-p : length (entryAt book p) ≡ 24 = entry-there book p h in
-            let long-q : length (entryAt book q) ≡ 24 = entry-there book q (omega arith) in
+            let f : For (zoneOf (entryAt book p)) (settingOf (entryAt book p)) (entryAt book q) = for-parts e in
             let key : keyOf (entryAt book q) ≡ keyOf (entryAt book p) =
-            keys-same (entryAt book q) (entryAt book p) long-q long-p (entry-bytes book q (s .small))
-            (entry-bytes book p (s .small)) (parts .1) (parts .2) in
-            absurd (s .known (keyOf (entryAt book p)) new q g (parts .0) key)
+            keys-same book (s .small) h (omega arith) (f .zoned) (f .set) in
+            absurd (s .known (keyOf (entryAt book p)) new q g (f .taken) key)
 
     unseen : seenBefore book p ≡ false
     unfolding seenBefore seenIn

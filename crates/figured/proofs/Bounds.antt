@@ -2,15 +2,15 @@
 -- most 100,800 to a counter (`file-few`): an accepted list has at most 48 entries, and the module pass has at most
 -- two errors a node. A step that continues has counted fewer than 4,294,967,295 files. So sums of small counters fit
 -- (`sum-fits`), are plain sums (`step-sum`), and are small again (`step-small`). The counters of a report from zeros
--- are then small by induction on the number of bytes left (`report-small`). Assumes nothing.
+-- are then small, by induction over its steps (`report-small`). Assumes nothing.
 use mathlib.Core.Path.{_≡_, refl, sym, ap, ap₂, _∙_}
 use mathlib.Core.Bool.{Bool, true, false, _&&_}
 use mathlib.Core.List.{List, [], _∷_, _++_}
 use Prim.Native.Nat.{ℕ, zero, suc, _+_, _-_, _*_, _^_, _<_, _≤_}
 use native.Mathlib.Omega.{arith}
-use lib.ListN.{length, getD, drop, replicate, length-drop, length-append}
+use lib.ListN.{length, getD, replicate, length-append}
 use lib.Dec.{eqb, ltb}
-use borrow.Author.Tests.{eqb-true, eqb-false, ltb-true}
+use borrow.Author.Tests.{ltb-true}
 use Rattle.fields.specs.Choice.{if'}
 use Rattle.fields.proofs.Basics.{never}
 use Rattle.table.specs.Answer.{Answer, accepted, refused, passes, isRefused}
@@ -40,11 +40,11 @@ use Rattle.figures.specs.Walking.{plus, modesAt}
 use Rattle.table.specs.Numbers.{tooManyFiles}
 use Rattle.figures.specs.Reporting.{mostFiles, windowCheck, stepCheck, told, stepOf, figuresAfter, zeros}
 use Rattle.figures.specs.Reporting.{reportFrom, reportOf}
-use Rattle.figures.specs.declared.Stepped.{Stepped}
-use Rattle.figures.specs.declared.Stepped.the-variants.{Taken, Refused}
+use Rattle.figures.specs.declared.Stepped.the-variants.{Taken}
 use Rattle.figures.proofs.Additions.{held-fits}
-use Rattle.figures.proofs.Running.{taken-fits, report-none, report-on, report-stop}
+use Rattle.figures.proofs.Running.{report-none, report-on, report-stop}
 use Rattle.figured.specs.Said.{mostAdded, Small}
+use Rattle.figured.proofs.Induction.{report-induction}
 use Rattle.figured.proofs.Sums.{step-is, taken-adds}
 
 -- a count of at most 48 for each node, summed over the nodes
@@ -271,27 +271,18 @@ module _ (w fs : List ℕ) (some : length w ≡ 0 → ⊥) {n : ℕ} (takes : st
         }
 
 -- LAW: the counters of a report from small ones are small
-pub report-small : (k at : ℕ) (fs b : List ℕ) → length b ≤ k → Small fs → Small (reportFrom at fs b .figures)
-report-small zero at fs b few small = rw (report-none at fs b (omega (arith, few))) small
-report-small (suc k) at fs b few small =
-    go (eqb (length b) 0) refl (stepOf b fs) refl
-    (λ n fits on. report-small k (at + n) (figuresAfter b fs) (drop n b) (omega (arith, few, fits, length-drop n b)) on)
-  where
-    go : (z : Bool) → eqb (length b) 0 ≡ z → (s : Stepped) → stepOf b fs ≡ s
-        → ((n : ℕ) → (1 ≤ n) × (n ≤ length b) → Small (figuresAfter b fs)
-        → Small (reportFrom (at + n) (figuresAfter b fs) (drop n b) .figures))
-        → Small (reportFrom at fs b .figures)
-    go true z s e rest = rw (report-none at fs b (eqb-true (length b) 0 z)) small
-    go false z (Refused m) e rest = rw (report-stop at fs b (eqb-false (length b) 0 z) e) small
-    go false z (Taken n) e rest =
-        let some = eqb-false (length b) 0 z in
-        rw (report-on at fs b some e) (rest n (taken-fits b fs some e) (step-small b fs some e small))
+pub report-small : (at : ℕ) (fs b : List ℕ) → Small fs → Small (reportFrom at fs b .figures)
+report-small = report-induction (λ at fs b. Small fs → Small (reportFrom at fs b .figures)) record {
+  none = λ at fs b none small. rw (report-none at fs b none) small;
+  stop = λ at fs b some m e small. rw (report-stop at fs b some e) small;
+  on = λ at fs b some n e rest small. rw (report-on at fs b some e) (rest (step-small b fs some e small));
+}
 
 -- THEOREM: the counters of a report are small, and below 2^64
 module _ (input : List ℕ) where
   pub figures-small : Small (reportOf input .figures)
   unfolding reportOf
-  figures-small = report-small (length input) 0 zeros input (omega arith) zeros-small
+  figures-small = report-small 0 zeros input zeros-small
 
   pub figures-fit : (i : ℕ) → getD (reportOf input .figures) i 0 < 2 ^ 64
   figures-fit i = omega (arith, figures-small .others i, figures-small .files)

@@ -1,3 +1,4 @@
+pub mod Induction
 pub mod Parts
 pub mod Joins
 pub mod Through

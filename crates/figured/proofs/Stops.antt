@@ -1,17 +1,16 @@
 -- A report that ended at a refused file. The input before that file has a whole report with the same counters
 -- (`report-before`), because each earlier step is the same without the bytes that follow. A refusal other than 70
 -- stays, with its place and counters, whatever bytes follow (`report-same`): a check that is not 70 has read only
--- blocks that are complete (`front-more`). Both are by induction on the number of bytes left. Assumes nothing.
+-- blocks that are complete (`front-more`). Both are by induction over the steps (Induction). Assumes nothing.
 use mathlib.Core.Path.{_≡_, refl, sym, ap, _∙_}
-use mathlib.Core.Bool.{Bool, true, false}
 use mathlib.Core.List.{List, [], _++_}
 use mathlib.Core.Logic.{_⊎_, inl, inr}
 use Prim.Native.Nat.{ℕ, zero, suc, _+_, _*_, _-_, _<_, _≤_, min}
 use native.Mathlib.Omega.{arith}
 use lib.ListN.{length, getD, take, drop, length-drop, length-take, length-append}
 use lib.Seq.{take-append-seam, drop-append-le}
-use lib.Dec.{eqb, ltb}
-use borrow.Author.Tests.{eqb-true, eqb-false, ne-eqb}
+use lib.Dec.{ltb}
+use borrow.Author.Tests.{ne-eqb}
 use Rattle.fields.proofs.Basics.{never, drop-take, le-or-lt}
 use Rattle.table.specs.Numbers.{blockShort, blockCounts, tooManyFiles}
 use Rattle.table.specs.Answer.{Answer, accepted, refused, andThen}
@@ -29,6 +28,7 @@ use Rattle.figures.specs.declared.Ending.{Ending}
 use Rattle.figures.specs.declared.Ending.the-variants.{Whole, Refused as RefusedAt}
 use Rattle.figures.specs.declared.Reported.{Reported}
 use Rattle.figures.proofs.Running.{taken-fits, report-none, report-on, report-stop}
+use Rattle.figured.proofs.Induction.{report-induction}
 use Rattle.figured.proofs.Parts.{taken-asked, part-step, part-after, part-content}
 use Rattle.figured.proofs.Joins.{not-both, report-more}
 
@@ -82,30 +82,26 @@ module _ (at : ℕ) (fs a : List ℕ) (some : length a ≡ 0 → ⊥) {n p : ℕ
             ∙ rw (part-after m a holds fs some, drop-take n m a, left) (rest .whole-there);
       }
 
--- LAW: the report of the input before the refused file
-pub before-refused : (k at : ℕ) (fs a : List ℕ) → length a ≤ k → {n p : ℕ} {gs : List ℕ}
+before-stop : (at : ℕ) (fs a : List ℕ) → (length a ≡ 0 → ⊥) → {m n p : ℕ} {gs : List ℕ} → stepOf a fs ≡ Refused m
     → reportFrom at fs a ≡ endedBy n p gs → Before at p fs a gs
-before-refused zero at fs a few e = not-both (sym e ∙ report-none at fs a (omega (arith, few)))
-before-refused (suc k) at fs a few {n} {p} {gs} e =
-    go (eqb (length a) 0) refl (stepOf a fs) refl
-    (λ m fits f. before-refused k (at + m) (figuresAfter a fs) (drop m a) (omega (arith, few, fits, length-drop m a)) f)
-  where
-    go : (z : Bool) → eqb (length a) 0 ≡ z → (s : Stepped) → stepOf a fs ≡ s
-        → ((m : ℕ) → (1 ≤ m) × (m ≤ length a) → reportFrom (at + m) (figuresAfter a fs) (drop m a) ≡ endedBy n p gs
-        → Before (at + m) p (figuresAfter a fs) (drop m a) gs)
-        → Before at p fs a gs
-    go true z s h rest = not-both (sym e ∙ report-none at fs a (eqb-true (length a) 0 z))
-    go false z (Refused m) h rest =
-        let end = same-end (sym (report-stop at fs a (eqb-false (length a) 0 z) h) ∙ e) in
-        let nothing : p - at ≡ 0 = omega (arith, end .place) in
-        record {
-          least = omega (arith, end .place);
-          most = omega (arith, end .place);
-          whole-there = rw (nothing, ← (end .figures)) (report-none at fs [] refl);
-        }
-    go false z (Taken m) h rest =
-        let some = eqb-false (length a) 0 z in
-        before-on at fs a some h (rest m (taken-fits a fs some h) (sym (report-on at fs a some h) ∙ e))
+before-stop at fs a some {p = p} h e =
+    let end = same-end (sym (report-stop at fs a some h) ∙ e) in
+    let nothing : p - at ≡ 0 = omega (arith, end .place) in
+    record {
+      least = omega (arith, end .place);
+      most = omega (arith, end .place);
+      whole-there = rw (nothing, ← (end .figures)) (report-none at fs [] refl);
+    }
+
+-- LAW: the report of the input before the refused file
+pub before-refused : (at : ℕ) (fs a : List ℕ) {n p : ℕ} {gs : List ℕ} → reportFrom at fs a ≡ endedBy n p gs
+    → Before at p fs a gs
+before-refused at fs a {n} {p} {gs} = report-induction
+    (λ at fs a. reportFrom at fs a ≡ endedBy n p gs → Before at p fs a gs) record {
+      none = λ at fs a none e. not-both (sym e ∙ report-none at fs a none);
+      stop = λ at fs a some m h e. before-stop at fs a some h e;
+      on = λ at fs a some m h rest e. before-on at fs a some h (rest (sym (report-on at fs a some h) ∙ e));
+    } at fs a
 
 -- a check that is not 70
 abbrev pub NotShort : Answer → Type 0
@@ -259,28 +255,18 @@ module _ (a b : List ℕ) where
         go (refused m vs) e = e
 
 -- LAW: the same for the report
-pub report-stays : (j at : ℕ) (fs a b : List ℕ) → length a ≤ j → (k p : ℕ) (gs : List ℕ)
-    → reportFrom at fs a ≡ endedBy k p gs → (k ≡ 70 → ⊥) → reportFrom at fs (a ++ b) ≡ endedBy k p gs
-report-stays zero at fs a b few k p gs e other = not-both (sym e ∙ report-none at fs a (omega (arith, few)))
-report-stays (suc j) at fs a b few k p gs e other =
-    go (eqb (length a) 0) refl (stepOf a fs) refl
-    (λ m fits f. report-stays j (at + m) (figuresAfter a fs) (drop m a) b (omega (arith, few, fits, length-drop m a))
-    k p gs f other)
-  where
-    go : (z : Bool) → eqb (length a) 0 ≡ z → (s : Stepped) → stepOf a fs ≡ s
-        → ((m : ℕ) → (1 ≤ m) × (m ≤ length a) → reportFrom (at + m) (figuresAfter a fs) (drop m a) ≡ endedBy k p gs
-        → reportFrom (at + m) (figuresAfter a fs) (drop m a ++ b) ≡ endedBy k p gs)
-        → reportFrom at fs (a ++ b) ≡ endedBy k p gs
-    go true z s h rest = not-both (sym e ∙ report-none at fs a (eqb-true (length a) 0 z))
-    go false z (Refused m) h rest =
-        let some = eqb-false (length a) 0 z in
-        let ends : endedBy m at fs ≡ endedBy k p gs = sym (report-stop at fs a some h) ∙ e in
-        let differs : m ≡ 70 → ⊥ = λ f. other (sym (same-end ends .number) ∙ f) in
-        report-stop at fs (a ++ b) (stay-some a b fs some h differs) (stop-stays a b fs some h differs) ∙ ends
-    go false z (Taken m) h rest =
-        let some = eqb-false (length a) 0 z in
-        report-more a b fs some h at
-        ∙ rest m (taken-fits a fs some h) (sym (report-on at fs a some h) ∙ e)
+pub report-stays : (at : ℕ) (fs a b : List ℕ) (k p : ℕ) (gs : List ℕ) → (k ≡ 70 → ⊥)
+    → reportFrom at fs a ≡ endedBy k p gs → reportFrom at fs (a ++ b) ≡ endedBy k p gs
+report-stays at fs a b k p gs other = report-induction
+    (λ at fs a. reportFrom at fs a ≡ endedBy k p gs → reportFrom at fs (a ++ b) ≡ endedBy k p gs) record {
+      none = λ at fs a none e. not-both (sym e ∙ report-none at fs a none);
+      stop = λ at fs a some m h e.
+          let ends : endedBy m at fs ≡ endedBy k p gs = sym (report-stop at fs a some h) ∙ e in
+          let differs : m ≡ 70 → ⊥ = λ f. other (sym (same-end ends .number) ∙ f) in
+          report-stop at fs (a ++ b) (stay-some a b fs some h differs) (stop-stays a b fs some h differs) ∙ ends;
+      on = λ at fs a some m h rest e.
+          report-more a b fs some h at ∙ rest (sym (report-on at fs a some h) ∙ e);
+    } at fs a
 
 -- an input whose report ended with a refusal
 module _ (a : List ℕ) {k p : ℕ} (ends : reportOf a .ending ≡ RefusedAt k p) where
@@ -293,14 +279,14 @@ module _ (a : List ℕ) {k p : ℕ} (ends : reportOf a .ending ≡ RefusedAt k p
   unfolding reportOf
   report-before =
       let here : p - 0 ≡ p = omega arith in
-      rw here at (before-refused (length a) 0 zeros a (omega arith) ended-there .whole-there)
+      rw here at (before-refused 0 zeros a ended-there .whole-there)
 
   -- THEOREM: the place is within the input
   pub report-place : p ≤ length a
-  report-place = omega (arith, before-refused (length a) 0 zeros a (omega arith) ended-there .most)
+  report-place = omega (arith, before-refused 0 zeros a ended-there .most)
 
   -- THEOREM: a refusal other than 70 stays, with its place and the counters, whatever bytes follow
   pub report-same : (k ≡ 70 → ⊥) → (b : List ℕ) → reportOf (a ++ b) ≡ reportOf a
   unfolding reportOf
   report-same other b =
-      report-stays (length a) 0 zeros a b (omega arith) k p (reportOf a .figures) ended-there other ∙ sym ended-there
+      report-stays 0 zeros a b k p (reportOf a .figures) other ended-there ∙ sym ended-there

@@ -2,15 +2,15 @@
 -- and another place, take the same steps as long as 76 ends neither: a step reads only the counter of files, and only
 -- for 76. So both add the same figures (`run-both`), and both end at the same distance from their beginning. With the
 -- report of the second input from zeros this is the sum (`report-sums`): adding figures that were limited to 64 bits
--- from zeros is adding the figures (`added-held`). The induction is on the number of bytes left. Assumes nothing.
+-- from zeros is adding the figures (`added-held`). The inductions are over the steps (Induction). Assumes nothing.
 use mathlib.Core.Path.{_≡_, refl, sym, ap, ap₂, _∙_}
 use mathlib.Core.Bool.{Bool, true, false}
 use mathlib.Core.List.{List, [], _∷_, _++_}
 use Prim.Native.Nat.{ℕ, zero, suc, _+_, _-_, _<_, _≤_}
 use native.Mathlib.Omega.{arith}
-use lib.ListN.{length, getD, drop, replicate, length-drop}
-use lib.Dec.{eqb, ltb}
-use borrow.Author.Tests.{ne-eqb, eqb-true, eqb-false, lt-ltb, ltb-true}
+use lib.ListN.{length, getD, drop, replicate}
+use lib.Dec.{ltb}
+use borrow.Author.Tests.{ne-eqb, lt-ltb, ltb-true}
 use Rattle.fields.proofs.Basics.{never, clash}
 use Rattle.table.specs.Answer.{Answer, accepted, refused}
 use Rattle.tablefile.specs.Reading.{headerAt, contentAt}
@@ -20,14 +20,14 @@ use Rattle.figures.specs.Walking.{plus}
 use Rattle.table.specs.Numbers.{tooManyFiles}
 use Rattle.figures.specs.Reporting.{mostFiles, stepCheck, told, counted, stepOf}
 use Rattle.figures.specs.Reporting.{figuresAfter, whole, endedBy, reportFrom, zeros, reportOf}
-use Rattle.figures.specs.declared.Stepped.{Stepped}
 use Rattle.figures.specs.declared.Stepped.the-variants.{Taken, Refused}
 use Rattle.figures.specs.declared.Ending.{Ending}
 use Rattle.figures.specs.declared.Ending.the-variants.{Whole, Refused as RefusedAt}
 use Rattle.figures.specs.declared.Reported.{Reported}
 use Rattle.figures.proofs.Additions.{added-none, added-zeros, added-twice, added-length}
-use Rattle.figures.proofs.Running.{taken-fits, report-none, report-on, report-stop}
+use Rattle.figures.proofs.Running.{report-none, report-on, report-stop}
 use Rattle.figured.specs.Said.{later, summed, endedBy76}
+use Rattle.figured.proofs.Induction.{report-induction}
 use Rattle.figured.proofs.Joins.{report-joined}
 
 -- a step from other counters
@@ -124,14 +124,13 @@ both-stop at from fs gs b some m e f = record {
     same n hs = let p : n + 0 ≡ n = omega arith in rw (p, added-none hs) refl
 
 both-on : (at from : ℕ) (fs gs b : List ℕ) (some : length b ≡ 0 → ⊥) (n : ℕ) → stepOf b fs ≡ Taken n
-    → stepOf b gs ≡ Taken n
-    → Both (at + n) (from + n) (added fs (figuresOf (contentAt b))) (added gs (figuresOf (contentAt b))) (drop n b)
+    → stepOf b gs ≡ Taken n → Both (at + n) (from + n) (figuresAfter b fs) (figuresAfter b gs) (drop n b)
     → Both at from fs gs b
 both-on at from fs gs b some n e f rest = record {
   more = plus (figuresOf (contentAt b)) (rest .more);
   end = later n (rest .end);
-  one = report-on at fs b some e ∙ rw (taken-adds b fs some e) (rest .one ∙ same at fs);
-  other = report-on from gs b some f ∙ rw (taken-adds b gs some f) (rest .other ∙ same from gs);
+  one = report-on at fs b some e ∙ rest .one ∙ rw (taken-adds b fs some e) (same at fs);
+  other = report-on from gs b some f ∙ rest .other ∙ rw (taken-adds b gs some f) (same from gs);
 }
   where
     same : (p : ℕ) (hs : List ℕ)
@@ -150,52 +149,33 @@ not-76 at fs b some not e =
     = ap (λ (r : Reported). endedBy76 (r .ending)) (report-stop at fs b some e) in
     clash ends not
 
--- LAW: two reports over the same bytes add the same figures
-run-both : (k at from : ℕ) (fs gs b : List ℕ) → length b ≤ k → length gs ≤ length fs → getD gs 0 0 ≤ getD fs 0 0
+-- LAW: two reports over the same bytes add the same figures, if 76 does not end the one with more files
+abbrev AddSame : ℕ → List ℕ → List ℕ → Type 0
+AddSame at fs b = (from : ℕ) (gs : List ℕ) → length gs ≤ length fs → getD gs 0 0 ≤ getD fs 0 0
     → Not76 (reportFrom at fs b) → Both at from fs gs b
-run-both zero at from fs gs b few long fewer not = both-none at from fs gs b (omega (arith, few))
-run-both (suc k) at from fs gs b few long fewer not =
-    go (eqb (length b) 0) refl (stepOf b fs) refl
-    (λ n fits still. run-both k (at + n) (from + n) (added fs (figuresOf (contentAt b)))
-    (added gs (figuresOf (contentAt b))) (drop n b) (omega (arith, few, fits, length-drop n b))
-    (rw (added-length gs (figuresOf (contentAt b)), added-length fs (figuresOf (contentAt b))) long)
-    (files-more fs gs (figuresOf (contentAt b)) long fewer) still)
-  where
-    go : (z : Bool) → eqb (length b) 0 ≡ z → (s : Stepped) → stepOf b fs ≡ s
-        → ((n : ℕ) → (1 ≤ n) × (n ≤ length b)
-        → Not76 (reportFrom (at + n) (added fs (figuresOf (contentAt b))) (drop n b))
-        → Both (at + n) (from + n) (added fs (figuresOf (contentAt b))) (added gs (figuresOf (contentAt b))) (drop n b))
-        → Both at from fs gs b
-    go true z s e rest = both-none at from fs gs b (eqb-true (length b) 0 z)
-    go false z (Refused m) e rest =
-        let some = eqb-false (length b) 0 z in
-        both-stop at from fs gs b some m e (step-alike b fs some gs fewer (not-76 at fs b some not) ∙ e)
-    go false z (Taken n) e rest =
-        let some = eqb-false (length b) 0 z in
-        let on : reportFrom at fs b ≡ reportFrom (at + n) (added fs (figuresOf (contentAt b))) (drop n b)
-        = report-on at fs b some e ∙ rw (taken-adds b fs some e) refl in
-        both-on at from fs gs b some n e (step-alike b fs some gs fewer (not-76 at fs b some not) ∙ e)
-        (rest n (taken-fits b fs some e) (rw (← on) not))
+
+run-both : (at : ℕ) (fs b : List ℕ) → AddSame at fs b
+run-both = report-induction AddSame record {
+  none = λ at fs b none from gs long fewer not. both-none at from fs gs b none;
+  stop = λ at fs b some m e from gs long fewer not.
+      both-stop at from fs gs b some m e (step-alike b fs some gs fewer (not-76 at fs b some not) ∙ e);
+  on = λ at fs b some n e rest from gs long fewer not.
+      let xs : List ℕ = figuresOf (contentAt b) in
+      let f : stepOf b gs ≡ Taken n = step-alike b fs some gs fewer (not-76 at fs b some not) ∙ e in
+      both-on at from fs gs b some n e f (rest (from + n) (figuresAfter b gs)
+      (rw (taken-adds b fs some e, taken-adds b gs some f, added-length fs xs, added-length gs xs) long)
+      (rw (taken-adds b fs some e, taken-adds b gs some f) (files-more fs gs xs long fewer))
+      (rw (← report-on at fs b some e) not));
+}
 
 -- a report has as many counters as it began with
-pub report-long : (k at : ℕ) (fs b : List ℕ) → length b ≤ k → length (reportFrom at fs b .figures) ≡ length fs
-report-long zero at fs b few = rw (report-none at fs b (omega (arith, few))) refl
-report-long (suc k) at fs b few =
-    go (eqb (length b) 0) refl (stepOf b fs) refl
-    (λ n fits. report-long k (at + n) (added fs (figuresOf (contentAt b))) (drop n b)
-    (omega (arith, few, fits, length-drop n b)))
-  where
-    go : (z : Bool) → eqb (length b) 0 ≡ z → (s : Stepped) → stepOf b fs ≡ s
-        → ((n : ℕ) → (1 ≤ n) × (n ≤ length b)
-        → length (reportFrom (at + n) (added fs (figuresOf (contentAt b))) (drop n b) .figures)
-        ≡ length (added fs (figuresOf (contentAt b))))
-        → length (reportFrom at fs b .figures) ≡ length fs
-    go true z s e rest = rw (report-none at fs b (eqb-true (length b) 0 z)) refl
-    go false z (Refused m) e rest = rw (report-stop at fs b (eqb-false (length b) 0 z) e) refl
-    go false z (Taken n) e rest =
-        let some = eqb-false (length b) 0 z in
-        rw (report-on at fs b some e, taken-adds b fs some e)
-        (rest n (taken-fits b fs some e) ∙ added-length fs (figuresOf (contentAt b)))
+pub report-long : (at : ℕ) (fs b : List ℕ) → length (reportFrom at fs b .figures) ≡ length fs
+report-long = report-induction (λ at fs b. length (reportFrom at fs b .figures) ≡ length fs) record {
+  none = λ at fs b none. rw (report-none at fs b none) refl;
+  stop = λ at fs b some m e. rw (report-stop at fs b some e) refl;
+  on = λ at fs b some n e rest. rw (report-on at fs b some e)
+      (rest ∙ rw (taken-adds b fs some e) (added-length fs (figuresOf (contentAt b))));
+}
 
 -- THEOREM: two inputs joined give the sums of their two reports, if the first has no refused file and 76 does not arise
 pub report-sums : (a b : List ℕ) → reportOf a .ending ≡ Whole → endedBy76 (reportOf (a ++ b) .ending) ≡ false
@@ -206,11 +186,9 @@ report-sums a b all not =
     let whole-a : reportFrom 0 zeros a ≡ whole fs = ap (ended fs) all in
     let here : 0 + length a ≡ length a = omega arith in
     let joins : reportFrom 0 zeros (a ++ b) ≡ reportFrom (length a) fs b
-    = report-joined (length a) 0 zeros a b (omega arith) fs whole-a
-    ∙ ap (λ (p : ℕ). reportFrom p fs b) here in
-    let long : length fs ≡ 32 = report-long (length a) 0 zeros a (omega arith) in
-    let both = run-both (length b) (length a) 0 fs zeros b (omega arith) (omega (arith, long)) (omega arith)
-    (rw (← joins) not) in
+    = report-joined 0 zeros a b fs whole-a ∙ ap (λ (p : ℕ). reportFrom p fs b) here in
+    let long : length fs ≡ 32 = report-long 0 zeros a in
+    let both = run-both (length a) fs b 0 zeros (omega (arith, long)) (omega arith) (rw (← joins) not) in
     joins ∙ both .one ∙ rw (both .other) (sums fs (both .more) (both .end) (omega (arith, long)))
   where
     sums : (fs more : List ℕ) (e : Ending) → length fs ≤ 32

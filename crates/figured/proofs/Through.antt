@@ -15,10 +15,9 @@ use Rattle.fields.specs.Choice.{if'}
 use Rattle.table.specs.Answer.{Answer, accepted, refused, andThen}
 use Rattle.table.specs.Numbers.{blockCounts, tooManyFiles}
 use Rattle.blocks.specs.Block.{demand, judge}
-use Rattle.blocks.specs.Run.{blocksFor}
 use Rattle.blocks.proofs.Parts.{judge-front}
 use Rattle.tablefile.specs.Reading.{headerAt, usedOf, contentAt, countsFit, blocksCheck}
-use Rattle.tablefile.proofs.Fronts.{header-front, first-is, taken-is, counts-small}
+use Rattle.tablefile.proofs.Fronts.{header-front, counts-small, taken-few}
 use Rattle.figures.specs.Counting.{figuresOf}
 use Rattle.figures.specs.Reporting.{mostFiles, windowCheck, stepCheck, counted, stepOf}
 use Rattle.figures.specs.Reporting.{figuresAfter, whole, afterStep, reportIn, reportFrom, reportOf}
@@ -30,9 +29,7 @@ use Rattle.figured.proofs.Parts.{part-step, part-after}
 -- counts within the limits: the file is no longer than a window
 fits-window : (w : List ℕ) → countsFit (headerAt w .nodes) (headerAt w .names) ≡ true
     → headerAt w .taken ≤ windowBytes
-unfolding blocksFor
-fits-window w e =
-    omega (arith, counts-small (headerAt w .nodes) (headerAt w .names) e, taken-is w, first-is w)
+fits-window w e = taken-few w (counts-small (headerAt w .nodes) (headerAt w .names) e)
 
 -- a refusal is the same whatever would follow it
 either : (x : Answer) (k : ℕ) (y z : Unit {0} → Answer)

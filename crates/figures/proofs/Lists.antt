@@ -96,20 +96,22 @@ module _ (c : Cut) where
       omega (arith, args, kwargs) in
       row refl second third args kwargs ∙ sym (runs-counted _ _ _ named _)
 
+-- an accepted list is joined from a cut, which has its counts and its modes
+record Joined (l : List Param) (c : Counts) : Type 0 where
+  cut : Cut
+  counts-are : c ≡ cutCounts cut
+  modes-are : modes l ≡ partModes (partsOf cut)
+
 module _ (l : List Param) {c : Counts} (h : unpack l ≡ accepted c) where
-  cut-of : (d : Cut) × (c ≡ cutCounts d) × (modes l ≡ partModes (partsOf d))
-  cut-of =
-      let w = accepted-cut l h in
-      let d : Cut = w .0 in
-      let is : accepted c ≡ accepted (cutCounts d) = sym h ∙ ap unpack (sym (w .1)) ∙ cut-accepted d (w .2) in
-      (d, same is, ap modes (sym (w .1)) ∙ cut-modes d (w .2 .slash))
-    where
-      same : {a b : Counts} → accepted a ≡ accepted b → a ≡ b
-      same e = cc
+  joined : Joined l c
+  joined =
+      let (d, is, rules) = accepted-cut l h in
+      let same : accepted c ≡ accepted (cutCounts d) = sym h ∙ ap unpack (sym is) ∙ cut-accepted d rules in
+      record { cut = d; counts-are = cc; modes-are = ap modes (sym is) ∙ cut-modes d (rules .slash) }
 
   -- LAW: the ranges follow one another
   pub ranged : Ranged c
-  ranged = let d = cut-of in rw (d .1) (cut-ranged (d .0))
+  ranged = rw (joined .counts-are) (cut-ranged (joined .cut))
 
 -- five counters, added one after another by the code
 pub modes-added : (a : List ℕ) {b c d e f : List ℕ} (v w x y z : ℕ) → b ≡ added a (only 3 v) → c ≡ added b (only 4 w)
@@ -173,4 +175,4 @@ module _ (start : List ℕ) {r : Called} {a : Answer} (r-is : called r ≡ a) {y
 
 -- LAW: the lengths of the ranges are the numbers of occurrences of the modes
 pub modes-counted : (l : List Param) {c : Counts} → unpack l ≡ accepted c → rangeCounts c ≡ modeCounts (modes l)
-modes-counted l {c} h = let d = cut-of l h in rw (d .1, d .2) (cut-counted (d .0))
+modes-counted l h = let j = joined l h in rw (j .counts-are, j .modes-are) (cut-counted (j .cut))

@@ -25,7 +25,7 @@ use Rattle.tablefile.specs.Reading.{headerAt, usedOf, contentAt, countsFit, edi
 use Rattle.tablefile.specs.Reading.{frontCheck, soundCheck, readCheck}
 use Rattle.tablefile.specs.Lending.{intoCheck, handed}
 use Rattle.blocks.proofs.Parts.{judge-front, run-front}
-use Rattle.tablefile.proofs.Fronts.{header-front, first-is, taken-is, counts-small}
+use Rattle.tablefile.proofs.Fronts.{header-front, taken-is, counts-small, name-blocks, taken-few}
 use Rattle.tablefile.proofs.Accepted.{read-whole, read-fronted}
 use Rattle.filepass.specs.Sizes.{enoughBytes}
 use Rattle.filepass.specs.Passing.{answerOf, ifRead, wordsAfter}
@@ -37,8 +37,7 @@ most-blocks = refl
 
 -- LAW: an accepted file has no more
 pub accepted-short : (bs : List ℕ) → readCheck bs ≡ accepted [] → length bs ≤ 512 * mostBlocks
-unfolding blocksFor
-accepted-short bs e = omega (arith, taken-is bs, first-is bs, read-whole bs e, read-fronted bs e .counts)
+accepted-short bs e = omega (arith, read-whole bs e, taken-few bs (read-fronted bs e .counts))
 
 -- the reader's check carries no values
 Plain : Answer → Type 0
@@ -77,11 +76,11 @@ module _ (m : ℕ) (bs : List ℕ) (enough : 512 * mostBlocks < m) (longer : m <
       andThen (demand (leb (length xs) (headerAt bs .taken)) bytesLeftOver) (λ _. soundCheck (contentAt xs)))
 
   later-part : countsFit (headerAt bs .nodes) (headerAt bs .names) ≡ true → later (take m bs) ≡ later bs
-  unfolding blocksFor later
+  unfolding later
   later-part fit =
       let small = counts-small (headerAt bs .nodes) (headerAt bs .names) fit in
-      let short : headerAt bs .taken ≤ 512 * mostBlocks = omega (arith, small, taken-is bs, first-is bs) in
-      let names = run-front (headerAt bs .names) 512 m bs (omega (arith, small)) 1 in
+      let short : headerAt bs .taken ≤ 512 * mostBlocks = taken-few bs small in
+      let names = run-front (headerAt bs .names) 512 m bs (omega (arith, name-blocks small)) 1 in
       let nodes = run-front (24 * headerAt bs .nodes) (512 * headerAt bs .first) m bs
       (omega (arith, taken-is bs, short)) (headerAt bs .first) in
       let part-left = lt-leb (length (take m bs)) (headerAt bs .taken) (simp length-take (omega (arith, short))) in

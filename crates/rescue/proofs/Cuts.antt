@@ -1,20 +1,22 @@
 -- The cut of a table to k children: its root is the old one except for the size, and its children are the first k of
--- the old ones (`cut-children`, by forest's `forest-firsts`). The only premise is that the table has whole records,
--- so no law here needs sound children. Changing the size touches bytes 16 and 17 of the root alone, which no other
--- field and no child reads. Assumes nothing.
+-- the old ones (`cut-children`, by forest's `forest-firsts`). The only premise is that the table has whole records
+-- and begins with a Statements (`Rooted`), so no law here needs sound children. Changing the size touches bytes 16
+-- and 17 of the root alone, which no other field and no child reads. Assumes nothing.
 use mathlib.Core.Path.{_≡_, refl, sym, ap, _∙_}
 use mathlib.Core.Logic.{_⊎_, inl, inr, ⊎-elim}
 use mathlib.Core.List.{List}
 use Prim.Native.Nat.{ℕ, _+_, _-_, _*_, _/_, _%_, _<_, _≤_}
 use native.Mathlib.Omega.{arith}
-use lib.ListN.{length, getD, take, drop, set, length-set}
+use lib.ListN.{length, getD, take, drop, set, length-set, List·getD-eq-default}
 use lib.Seq.{length-take-le, take-take, getD-set-same, getD-set-other, getD-take, drop-set-lt}
 use Rattle.fields.specs.Field.{field}
 use Rattle.fields.proofs.Basics.{drop-take}
 use Rattle.fields.proofs.Fields.{field-same}
 use Rattle.forest.specs.Forest.{sizeOf, nodeOf, spanOf, kidsOf, restOf, none, forest, firsts, count}
 use Rattle.forest.proofs.Prefix.{firsts-count, forest-firsts}
-use Rattle.forest.proofs.Stretch.{tree, forest-none, forest-tree, count-forest, length-kids, length-rest}
+use Rattle.forest.proofs.Stretch.{tree, record-or-none, forest-none, forest-tree, count-forest, length-kids}
+use Rattle.forest.proofs.Stretch.{length-rest}
+use Rattle.soundness.specs.KindNumbers.{kindStatements}
 use Rattle.soundness.specs.Sound.{Context, fieldsSound}
 use Rattle.rescue.specs.Cut.{children, resized, cutTo}
 
@@ -45,17 +47,33 @@ module _ (m : ℕ) (t : List ℕ) where
       let high : getD (set u 17 (m / 256)) 17 0 ≡ m / 256 = getD-set-same u 17 (m / 256) 0 (omega arith) in
       rw (low, high) (omega arith)
 
--- the cut of a table of whole records to k children
-module _ (k : ℕ) (t : List ℕ) (some : 24 ≤ length t) (whole : 24 * (length t / 24) ≡ length t) where
+-- a table of whole records that begins with a Statements
+pub record Rooted (t : List ℕ) : Type 0 where
+  pub some : 24 ≤ length t
+  pub whole : 24 * (length t / 24) ≡ length t
+  pub kind : nodeOf 0 t .kind ≡ kindStatements
+
+pub rooted : {t : List ℕ} → 24 * (length t / 24) ≡ length t → nodeOf 0 t .kind ≡ kindStatements → Rooted t
+rooted {t} whole kind = record {
+  some = record-or-none t
+      (λ (h : length t < 24).
+      let past : getD t 0 0 ≡ 0 = List·getD-eq-default t 0 (omega arith) in absurd (omega arith))
+      (λ h. h);
+  whole = whole;
+  kind = kind;
+}
+
+-- the cut of such a table to k children
+module _ (k : ℕ) {t : List ℕ} (r : Rooted t) where
   abbrev pub cutNodes : ℕ
   cutNodes = 1 + count (firsts k (children t))
 
   -- the first k children lie within those of the root
   inside : 24 * count (firsts k (children t)) ≤ spanOf t - 24
-  inside = omega (arith, firsts-count k (children t), count-forest 1 (kidsOf t), length-kids t)
+  inside = omega (arith, r .some, r .whole, firsts-count k (children t), count-forest 1 (kidsOf t), length-kids t)
 
   room : 24 * cutNodes ≤ length t
-  room = omega (arith, inside)
+  room = omega (arith, r .some, inside)
 
   long : length (take (24 * cutNodes) t) ≡ 24 * cutNodes
   long = length-take-le (24 * cutNodes) t room
@@ -116,7 +134,7 @@ module _ (k : ℕ) (t : List ℕ) (some : 24 ≤ length t) (whole : 24 * (length
       ) (sym (take-take (24 * count (firsts k (children t))) (spanOf t - 24) (drop 24 t) inside))
 
   pub cut-children : children (cutTo k t) ≡ firsts k (children t)
-  cut-children = ap (forest 1) kids-cut ∙ forest-firsts k 1 (kidsOf t) (omega (arith, length-kids t))
+  cut-children = ap (forest 1) kids-cut ∙ forest-firsts k 1 (kidsOf t) (omega (arith, r .some, r .whole, length-kids t))
 
   pub cut-forest : forest 0 (cutTo k t) ≡ tree (nodeOf 0 (cutTo k t)) (firsts k (children t)) none
   cut-forest = forest-tree 0 (cutTo k t) (omega (arith, cut-length))

@@ -8,17 +8,17 @@ use mathlib.Core.Bool.{Bool, true, false}
 use mathlib.Core.List.{List}
 use Prim.Native.Nat.{ℕ, _+_, _*_, _-_, _/_, _%_, _<_, _≤_}
 use native.Mathlib.Omega.{arith}
-use lib.ListN.{length, getD, take, drop, set, List·getD-eq-default}
+use lib.ListN.{length, take, drop, set}
 use lib.Seq.{take-all, take-set-lt}
 use borrow.Author.Tests.{le-leb, ne-eqb}
 use Rattle.forest.specs.Forest.{nodeOf, spanOf, Tree, forest, firsts, count}
-use Rattle.forest.proofs.Stretch.{kids-part, length-kids, record-or-none}
+use Rattle.forest.proofs.Stretch.{kids-part, length-kids}
 use Rattle.forest.proofs.Prefix.{firsts-some, some-child}
 use Rattle.table.specs.Answer.{passes}
 use Rattle.table.specs.Check.{checkOf}
 use Rattle.rescue.specs.Cut.{children, resized, cutTo, childrenKept, largestCut}
 use Rattle.rescue.specs.Steps.{keepable, leading, leadingBytes, keptIf, Front, Records}
-use Rattle.rescue.proofs.Cuts.{length-resized, cut-length, cut-short}
+use Rattle.rescue.proofs.Cuts.{length-resized, Rooted, rooted, cut-length, cut-short}
 use Rattle.rescue.proofs.Greedy.{leading-few}
 use Rattle.rescue.proofs.Largest.{kept-is, kept-none}
 
@@ -38,11 +38,11 @@ module _ (t names : List ℕ) {k : ℕ} (k-is : k ≡ nodeOf 0 t .kind) where
   cut-other e = front-none t names t (rw (← k-is, ne-eqb k 1 e) refl)
 
   module _ (kind : k ≡ 1) (r : Records t) where
+    root : Rooted t
+    root = rooted (r .whole) (sym k-is ∙ kind)
+
     pub cut-big : 24 ≤ length t
-    cut-big = record-or-none t
-        (λ (h : length t < 24).
-        let past : getD t 0 0 ≡ 0 = List·getD-eq-default t 0 (omega (arith, r .whole)) in absurd (omega arith))
-        (λ h. h)
+    cut-big = root .some
 
     module _ {e : ℕ} (e-is : e ≡ spanOf t) where
       pub cut-row : 24 * (length (take (e - 24) (drop 24 t)) / 24) ≡ length (take (e - 24) (drop 24 t))
@@ -70,14 +70,14 @@ module _ (t names : List ℕ) {k : ℕ} (k-is : k ≡ nodeOf 0 t .kind) where
             go : (b : Bool) → passes (checkOf (cutTo n t) names) ≡ b → childrenKept t names ≡ 0
             go true e = omega (
               arith,
-              kept-is t names cut-big (r .whole) (r .few) (sym k-is ∙ kind) e,
+              kept-is names root (r .few) e,
               firsts-some n (children t) (leading-few _ (children t)),
               done-is-cut,
             )
-            go false e = kept-none t names cut-big (r .whole) (r .few) (sym k-is ∙ kind) e
+            go false e = kept-none names root (r .few) e
 
         pub cut-fits : 24 + done ≤ length t
-        cut-fits = omega (arith, done-is-cut, cut-length n t cut-big (r .whole), cut-short n t cut-big (r .whole))
+        cut-fits = omega (arith, done-is-cut, cut-length n root, cut-short n root)
 
         pub cut-word : (24 + done) / 24 < 65536
         cut-word = omega (arith, cut-fits, r .few)
@@ -104,16 +104,16 @@ module _ (t names : List ℕ) {k : ℕ} (k-is : k ≡ nodeOf 0 t .kind) where
 
             pub cut-bad : q ≡ false → Front (largestCut t names) u 0
             cut-bad bad = front-none t names u
-                (kept-none t names cut-big (r .whole) (r .few) (sym k-is ∙ kind) (q-test ∙ bad))
+                (kept-none names root (r .few) (q-test ∙ bad))
 
             pub cut-good : q ≡ true → Front (largestCut t names) u (24 + done)
             unfolding largestCut
             cut-good good =
-                let is = kept-is t names cut-big (r .whole) (r .few) (sym k-is ∙ kind) (q-test ∙ good) in
+                let is = kept-is names root (r .few) (q-test ∙ good) in
                 let one : 1 ≤ n = some-child (children t) n (λ z. some (omega (arith, done-is-cut, z))) in
                 let here : largestCut t names ≡ cutTo n t = rw (is, le-leb 1 n one) refl in
                 record {
-                  size = rw here (sym (cut-length n t cut-big (r .whole) ∙ sym done-is-cut));
+                  size = rw here (sym (cut-length n root ∙ sym done-is-cut));
                   front = cut-is ∙ sym here;
                 }
 

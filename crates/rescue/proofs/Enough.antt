@@ -18,7 +18,8 @@ use Rattle.blocks.specs.Run.{blocksFor, judgeRun}
 use Rattle.blocks.proofs.Parts.{judge-front, run-front, goods-front, content-front}
 use Rattle.tablefile.specs.File.{mostBlocks, fileOf}
 use Rattle.tablefile.specs.Reading.{headerAt, usedOf, statedIn, contentAt, countsFit, blocksCheck}
-use Rattle.tablefile.proofs.Fronts.{header-front, first-is, taken-is, dialect-few, edition-few, counts-small}
+use Rattle.tablefile.proofs.Fronts.{header-front, taken-is, dialect-few, edition-few, Small, counts-small}
+use Rattle.tablefile.proofs.Fronts.{name-blocks, taken-few}
 use Rattle.writer.specs.Writing.{afterwards}
 use Rattle.rescue.specs.Good.{headGood, blocksPass, goodTable}
 use Rattle.rescue.specs.Job.{tableKept, kept, rescueOf, fileAfter, rescued}
@@ -74,19 +75,11 @@ module _ (bs : List ℕ) (n : ℕ) (big : 512 * mostBlocks ≤ n) where
 
   -- if the counts are within the limits, these bytes contain the blocks
   module _ (fit : countsFit (headerAt bs .nodes) (headerAt bs .names) ≡ true) where
-    name-blocks : blocksFor (headerAt bs .names) ≤ 16
-    unfolding blocksFor
-    name-blocks = omega (arith, counts-small (headerAt bs .nodes) (headerAt bs .names) fit)
-
-    node-blocks : blocksFor (24 * headerAt bs .nodes) ≤ 100
-    unfolding blocksFor
-    node-blocks = omega (arith, counts-small (headerAt bs .nodes) (headerAt bs .names) fit)
-
-    taken-few : headerAt bs .taken ≤ 512 * mostBlocks
-    taken-few = omega (arith, name-blocks, node-blocks, taken-is bs, first-is bs)
+    small : Small (headerAt bs .nodes) (headerAt bs .names)
+    small = counts-small (headerAt bs .nodes) (headerAt bs .names) fit
 
     names-there : 512 + 512 * blocksFor (headerAt bs .names) ≤ n
-    names-there = omega (arith, name-blocks)
+    names-there = omega (arith, name-blocks small)
 
     names-run : judgeRun 1 (headerAt bs .names) (drop 512 (take n bs)) ≡ judgeRun 1 (headerAt bs .names) (drop 512 bs)
     names-run = run-front (headerAt bs .names) 512 n bs names-there 1
@@ -96,7 +89,7 @@ module _ (bs : List ℕ) (n : ℕ) (big : 512 * mostBlocks ≤ n) where
     names-same = rw header-same (content-front (headerAt bs .names) 512 n bs names-there)
 
     nodes-there : 512 * h + 512 * blocksFor (24 * headerAt bs .nodes) ≤ n
-    nodes-there = omega (arith, name-blocks, node-blocks, first-is bs)
+    nodes-there = omega (arith, taken-few bs small, taken-is bs)
 
     nodes-run : judgeRun h (24 * headerAt bs .nodes) (drop (512 * h) (take n bs))
         ≡ judgeRun h (24 * headerAt bs .nodes) (drop (512 * h) bs)
@@ -137,7 +130,7 @@ module _ (bs : List ℕ) (n : ℕ) (big : 512 * mostBlocks ≤ n) where
     answer-fit : (room : ℕ) → later (length bs - n) (rescueOf (take n bs) room) ≡ rescueOf bs room
     answer-fit room =
         let more : length (take n bs) - headerAt bs .taken + (length bs - n) ≡ length bs - headerAt bs .taken =
-        omega (arith, length-take n bs, taken-few) in
+        omega (arith, length-take n bs, taken-few bs small) in
         rw (rescue-is (take n bs) room, head-same, table-kept, header-same)
         (later-steps (headGood bs) (leb 1 (length (tableKept bs))) (leb (size bs room) room) _ _ _ _ _ _
         ∙ rw more (sym (rescue-is bs room)))

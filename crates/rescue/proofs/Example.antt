@@ -3,7 +3,7 @@
 -- wrong source file numbers (W-208): the rescue cuts before a child with a wrong number, and keeps nothing under a
 -- root that has one. All is computed. Assumes nothing.
 use mathlib.Core.Path.{_≡_, refl}
-use mathlib.Core.Bool.{false}
+use mathlib.Core.Bool.{Bool, true, false}
 use mathlib.Core.List.{List, [], _∷_, _++_, map}
 use Prim.Native.Nat.{ℕ}
 use lib.ListN.{replicate}
@@ -55,39 +55,29 @@ wrongRoot = holding (recordOf kindStatements 0 2 1 ++ recordOf kindBreak 0 1 1)
 abbrev pub oldFile : Content
 oldFile = holding (recordOf kindStatements 0 2 0 ++ recordOf kindBreak 0 1 0)
 
--- the reader refuses its blocks with 3
-pub does-not-pass : blocksPass (fileOf content) ≡ false
+-- what computes a file and its rescue: to unfold this is to unfold all of these
+unfoldable rescuing : Bool
 unfolding field bytesOf weighed sumOf beforeSum blockOf zeros examine judge blocksFor blocksOf runOf judgeBlocks
     judgeRun goodBlocks contents contentIn contentOf headerOf fileOf dialectIn editionIn editionHeld rulesOf headerAt
-    contentAt countsFit blocksCheck
-    readCheck sizeOf kidsOf restOf forestIn forest roots firsts count countTree same kindIn kindOf nameSound spanSound
-    sourceSound fieldsSound wholeTrees classes permitted wanted permits kidsSound soundNode soundAt rootSound fileSound
-    endsBy topOf filesOf contextOf recordSound firstFalse firstUnsound lengthSound checkOf givenOf classWeight weight
-    firstDeep deepIn headGood blocksPass goodTable resized cutTo largest childrenKept largestCut tableKept statementsOf
-    rescueOf within validBytes fromBytes
+    contentAt countsFit blocksCheck readCheck sizeOf kidsOf restOf forestIn forest roots firsts count countTree same
+    kindIn kindOf nameSound spanSound sourceSound fieldsSound wholeTrees classes permitted wanted permits kidsSound
+    soundNode soundAt rootSound fileSound endsBy topOf filesOf contextOf recordSound firstFalse firstUnsound
+    lengthSound checkOf givenOf classWeight weight firstDeep deepIn headGood blocksPass goodTable resized cutTo largest
+    childrenKept largestCut tableKept statementsOf rescueOf within validBytes fromBytes
+rescuing = true
+
+-- the reader refuses its blocks with 3
+pub does-not-pass : blocksPass (fileOf content) ≡ false
+unfolding rescuing
 does-not-pass = refl
 
 -- the counts: 1,024 bytes, one statement and two nodes kept, one node dropped, no byte after the last block
 pub is-rescued : rescueOf (fileOf content) 1024 ≡ accepted (1024 ∷ 1 ∷ 2 ∷ 1 ∷ 0 ∷ [])
-unfolding field bytesOf weighed sumOf beforeSum blockOf zeros examine judge blocksFor blocksOf runOf judgeBlocks
-    judgeRun goodBlocks contents contentIn contentOf headerOf fileOf dialectIn editionIn editionHeld rulesOf headerAt
-    contentAt countsFit blocksCheck
-    readCheck sizeOf kidsOf restOf forestIn forest roots firsts count countTree same kindIn kindOf nameSound spanSound
-    sourceSound fieldsSound wholeTrees classes permitted wanted permits kidsSound soundNode soundAt rootSound fileSound
-    endsBy topOf filesOf contextOf recordSound firstFalse firstUnsound lengthSound checkOf givenOf classWeight weight
-    firstDeep deepIn headGood blocksPass goodTable resized cutTo largest childrenKept largestCut tableKept statementsOf
-    rescueOf within validBytes fromBytes
+unfolding rescuing
 is-rescued = refl
 
 -- the child with a wrong number is dropped; of the other two files nothing is kept, 91
 pub numbers-rescued : map (λ (c : Content). rescueOf (fileOf c) 1024) (wrongChild ∷ wrongRoot ∷ oldFile ∷ [])
     ≡ accepted (1024 ∷ 1 ∷ 2 ∷ 1 ∷ 0 ∷ []) ∷ refused nothingKept [] ∷ refused nothingKept [] ∷ []
-unfolding field bytesOf weighed sumOf beforeSum blockOf zeros examine judge blocksFor blocksOf runOf judgeBlocks
-    judgeRun goodBlocks contents contentIn contentOf headerOf fileOf dialectIn editionIn editionHeld rulesOf headerAt
-    contentAt countsFit blocksCheck
-    readCheck sizeOf kidsOf restOf forestIn forest roots firsts count countTree same kindIn kindOf nameSound spanSound
-    sourceSound fieldsSound wholeTrees classes permitted wanted permits kidsSound soundNode soundAt rootSound fileSound
-    endsBy topOf filesOf contextOf recordSound firstFalse firstUnsound lengthSound checkOf givenOf classWeight weight
-    firstDeep deepIn headGood blocksPass goodTable resized cutTo largest childrenKept largestCut tableKept statementsOf
-    rescueOf within validBytes fromBytes
+unfolding rescuing
 numbers-rescued = refl

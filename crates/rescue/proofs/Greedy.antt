@@ -6,7 +6,7 @@
 use mathlib.Core.Path.{_≡_, refl, sym, ap, _∙_}
 use mathlib.Core.Bool.{Bool, true, false, _&&_}
 use mathlib.Core.List.{List, [], append-nil}
-use Prim.Native.Nat.{ℕ, zero, suc, _+_, _*_, _/_, _≤_}
+use Prim.Native.Nat.{ℕ, zero, suc, _+_, _*_, _≤_}
 use native.Mathlib.Nat.{sub-zero}
 use native.Mathlib.Omega.{arith}
 use lib.ListN.{length, replicate}
@@ -34,7 +34,8 @@ use Rattle.table.proofs.Checking.{accepted-clean}
 use Rattle.table.proofs.Theorems.{clean-accepted}
 use Rattle.rescue.specs.Cut.{children, cutTo}
 use Rattle.rescue.specs.Steps.{keepable, leading}
-use Rattle.rescue.proofs.Cuts.{cut-length, cut-short, cut-size, cut-kind, cut-file, cut-fields, cut-forest}
+use Rattle.rescue.proofs.Cuts.{Rooted, cut-length, cut-short, cut-size, cut-kind, cut-file, cut-fields}
+use Rattle.rescue.proofs.Cuts.{cut-forest}
 
 -- a test of each tree
 unfoldable pub each : (Tree → Bool) → Forest → Bool
@@ -171,8 +172,7 @@ unfolding kidsSound permits permitted wanted
 kids-are d f = rw (rule-statements d, sub-zero, append-nil) refl
 
 -- the cut of a table that begins with a Statements
-module _ (t names : List ℕ) (some : 24 ≤ length t) (whole : 24 * (length t / 24) ≡ length t)
-    (kind : nodeOf 0 t .kind ≡ kindStatements) (k : ℕ) where
+module _ {t : List ℕ} (names : List ℕ) (r : Rooted t) (k : ℕ) where
   abbrev x : Context
   x = context (length names) anyFile
 
@@ -180,15 +180,15 @@ module _ (t names : List ℕ) (some : 24 ≤ length t) (whole : 24 * (length t /
   kids = firsts k (children t)
 
   kind-cut : nodeOf 0 (cutTo k t) .kind ≡ kindStatements
-  kind-cut = cut-kind k t some whole ∙ kind
+  kind-cut = cut-kind k r ∙ r .kind
 
   root-is : soundNode x (nodeOf 0 (cutTo k t)) kids
       ≡ (fieldsSound x (nodeOf 0 t)
       && (wholeTrees kids && same (classes kids) (replicate (length (classes kids)) statement)))
   unfolding soundNode
   root-is = rw (
-    cut-fields k t some whole x,
-    eq-eqb (sizeOf (cutTo k t)) (1 + count kids) (cut-size k t some whole),
+    cut-fields k r x,
+    eq-eqb (sizeOf (cutTo k t)) (1 + count kids) (cut-size k r),
     kind-cut,
     kids-are (nodeOf 0 (cutTo k t) .detail) kids,
   ) refl
@@ -196,11 +196,11 @@ module _ (t names : List ℕ) (some : 24 ≤ length t) (whole : 24 * (length t /
   all-is : allSound (λ i. x) (forest 0 (cutTo k t))
       ≡ ((soundNode x (nodeOf 0 (cutTo k t)) kids && allSound (λ i. x) kids) && true)
   unfolding allSound
-  all-is = ap (allSound (λ i. x)) (cut-forest k t some whole)
+  all-is = ap (allSound (λ i. x)) (cut-forest k r)
 
   deep-is : firstDeep 0 (forest 0 (cutTo k t)) ≡ firstDeep 1 kids
   unfolding firstDeep
-  deep-is = ap (firstDeep 0) (cut-forest k t some whole) ∙ rw (kind-cut, weight-statements) (go (firstDeep 1 kids))
+  deep-is = ap (firstDeep 0) (cut-forest k r) ∙ rw (kind-cut, weight-statements) (go (firstDeep 1 kids))
     where
       go : (y : Found) → orElse y (λ _. Nothing) ≡ y
       go (At i) = refl
@@ -211,11 +211,11 @@ module _ (t names : List ℕ) (some : 24 ≤ length t) (whole : 24 * (length t /
   root-covers = and-both _ _
       (eq-eqb (classOf (nodeOf 0 (cutTo k t) .kind)) statement (ap classOf kind-cut ∙ class-statements))
       (eq-eqb (24 * sizeOf (cutTo k t)) (length (cutTo k t))
-      (omega (arith, cut-size k t some whole, cut-length k t some whole)))
+      (omega (arith, cut-size k r, cut-length k r)))
 
   files-is : filesSound (forest 0 (cutTo k t)) ≡ (eqb (nodeOf 0 t .file) 0 && filesTop kids)
   unfolding filesSound
-  files-is = ap filesSound (cut-forest k t some whole) ∙ rw (kind-cut, cut-file k t some whole) refl
+  files-is = ap filesSound (cut-forest k r) ∙ rw (kind-cut, cut-file k r) refl
 
   -- LAW: the cut passes if the root's fields are sound, its file number is 0, and each of the children can be kept
   pub record Passed : Type 0 where
@@ -227,7 +227,7 @@ module _ (t names : List ℕ) (some : 24 ≤ length t) (whole : 24 * (length t /
   pub cut-accepted : length t ≤ 50400 → Passed → checkOf (cutTo k t) names ≡ accepted []
   cut-accepted few p =
       let says : Keepable (length names) kids = each-says (length names) kids (p .good) in
-      let long = cut-length k t some whole in
+      let long = cut-length k r in
       let sound : Sound (λ i. x) 0 (cutTo k t) = record {
         records = omega arith;
         nodes = all-is ∙ rw (root-is, p .fields, says .whole, says .statements, says .sound) refl;
@@ -235,7 +235,7 @@ module _ (t names : List ℕ) (some : 24 ≤ length t) (whole : 24 * (length t /
       let files : filesSound (forest 0 (cutTo k t)) ≡ true = files-is ∙ and-both _ _ (p .file) (says .files) in
       clean-accepted (cutTo k t) names record {
         least = omega arith;
-        most = omega (arith, cut-short k t some whole);
+        most = omega (arith, cut-short k r);
         whole = omega arith;
         few = p .named;
         unsound = any-clean (cutTo k t) names root-covers sound files;

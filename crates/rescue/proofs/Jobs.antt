@@ -28,7 +28,7 @@ use Rattle.tablefile.specs.Lending.{copied}
 use Rattle.tablefile.proofs.Copies.{copied-is}
 use Rattle.tablefile.specs.Reading.{headerAt, contentAt}
 use Rattle.tablefile.specs.declared.Heading.{Heading}
-use Rattle.tablefile.proofs.Fronts.{first-is, taken-is, table-length}
+use Rattle.tablefile.proofs.Fronts.{Small, name-blocks, first-is, taken-is, table-length}
 use Rattle.writer.specs.Writing.{holding, bytesFor, laidOver}
 use Rattle.writer.proofs.Building.{length-file}
 use Rattle.writer.proofs.Jobs.{Few, sound-few, Fitting, laid-over}
@@ -64,7 +64,7 @@ module _ {bs : List ℕ} {h : Heading} {names t : List ℕ} {whole : Bool} (k : 
       (arith, ap length (k .ready .called), names-long bs (k .ready .head), head-says bs (k .ready .head) .counts)
 
   pub fin-nodes : h .nodes ≤ 2100
-  fin-nodes = rw (k .ready .heading) (head-says bs (k .ready .head) .counts .1)
+  fin-nodes = rw (k .ready .heading) (head-says bs (k .ready .head) .counts .few)
 
   pub fin-some : 24 ≤ length t
   fin-some = rw (k .table) (kept-some bs (k .ready .head) some)
@@ -173,15 +173,16 @@ module _ {bs : List ℕ} {h : Heading} {names t : List ℕ} {whole : Bool} (k : 
 
 -- a file whose header is good
 module _ {bs : List ℕ} {h : Heading} {names : List ℕ} (r : Ready bs h names) where
-  counts : (1 ≤ h .nodes) × (h .nodes ≤ 2100) × (h .names ≤ 8064)
+  counts : Small (h .nodes) (h .names)
   counts = rw (r .heading) (head-says bs (r .head) .counts)
 
   pub into-nodes : h .nodes ≤ 2100
-  into-nodes = counts .1
+  into-nodes = counts .few
 
   first-few : h .first ≤ 17
-  unfolding blocksFor
-  first-few = let first : h .first ≡ 1 + blocksFor (h .names) = rw (r .heading) (first-is bs) in omega (arith, counts)
+  first-few =
+      let first : h .first ≡ 1 + blocksFor (h .names) = rw (r .heading) (first-is bs) in
+      omega (arith, name-blocks counts)
 
   pub into-at : 512 * h .first < 2 ^ 64
   into-at = omega (arith, first-few)
@@ -275,7 +276,7 @@ module _ (bs : List ℕ) {h : Heading} (h-is : h ≡ headerAt bs) {q : Bool} (q-
     head = sym q-is ∙ good
 
     pub start-names : h .names ≤ 8064
-    start-names = rw h-is (head-says bs head .counts .2)
+    start-names = rw h-is (head-says bs head .counts .short)
 
     start-copy : 512 * (1 + blocksFor (h .names)) ≤ length bs
     start-copy = rw h-is (omega (arith, first-there bs head, first-is bs))

@@ -9,7 +9,7 @@ use mathlib.Core.Logic.{⊎-elim}
 use mathlib.Core.List.{List, []}
 use Prim.Native.Nat.{ℕ, _+_, _*_, _-_, _/_, _%_, _<_, _≤_}
 use native.Mathlib.Omega.{arith}
-use lib.ListN.{length, getD, take, drop, set, length-drop, List·getD-eq-default}
+use lib.ListN.{length, take, drop, set, length-drop}
 use lib.Dec.{leb}
 use borrow.Author.Tests.{leb-true, le-leb, lt-leb}
 use Rattle.fields.specs.Choice.{if'}
@@ -23,7 +23,6 @@ use Rattle.dialect.specs.declared.Edition.{Edition}
 use Rattle.dialect.specs.declared.EditionRead.{EditionRead}
 use Rattle.dialect.specs.declared.EditionRead.the-variants.{Known, Unknown}
 use Rattle.forest.specs.Forest.{nodeOf, firsts, count}
-use Rattle.forest.proofs.Stretch.{record-or-none}
 use Rattle.soundness.specs.KindNumbers.{kindStatements}
 use Rattle.table.specs.Answer.{Answer, accepted, refused, passes, andThen}
 use Rattle.table.specs.Check.{checkOf, handing, givenOf, inGiven, givenCheck}
@@ -40,20 +39,20 @@ use Rattle.blocks.proofs.Parts.{bytes-content}
 use Rattle.tablefile.specs.File.{Content, fileOf}
 use Rattle.tablefile.specs.Reading.{headerAt, usedOf, contentAt, countsFit, editionRead, blocksCheck, frontCheck}
 use Rattle.tablefile.specs.Reading.{soundCheck, readCheck}
-use Rattle.tablefile.proofs.Fronts.{Fronted, fronted-then, counts-small, first-is, taken-is, table-length}
+use Rattle.tablefile.proofs.Fronts.{Fronted, fronted-then, Small, counts-small, first-is, taken-is, table-length}
 use Rattle.tablefile.proofs.Files.{front-is-file}
 use Rattle.tablefile.proofs.Accepted.{SoundContent, back-accepted, back-holds}
 use Rattle.rescue.specs.Good.{isDialect, isEdition, headGood, blocksPass, goodTable}
 use Rattle.rescue.specs.Cut.{children, resized, cutTo, childrenKept, largestCut}
 use Rattle.rescue.specs.Job.{tableKept, kept}
 use Rattle.rescue.specs.Steps.{keptIf}
-use Rattle.rescue.proofs.Cuts.{cut-length, cut-short}
+use Rattle.rescue.proofs.Cuts.{Rooted, rooted, cut-length, cut-short}
 use Rattle.rescue.proofs.Largest.{keeps}
 
 -- what a good header implies
 pub record Head (bs : List ℕ) : Type 0 where
   pub fit : countsFit (headerAt bs .nodes) (headerAt bs .names) ≡ true
-  pub counts : (1 ≤ headerAt bs .nodes) × (headerAt bs .nodes ≤ 2100) × (headerAt bs .names ≤ 8064)
+  pub counts : Small (headerAt bs .nodes) (headerAt bs .names)
   pub dialect : (d : Dialect) × (fromBytes (contentAt bs .dialect) ≡ Valid d)
   pub edition : (e : Edition) × (editionRead (contentAt bs) ≡ Known e)
   pub block : passes (judge 0 (usedOf (headerAt bs)) bs) ≡ true
@@ -193,14 +192,9 @@ module _ (bs : List ℕ) where
   pub good-whole : 24 * (length (goodTable bs) / 24) ≡ length (goodTable bs)
   good-whole = omega (arith, good-length)
 
-  -- a table that begins with a Statements begins with a record
-  pub good-some : nodeOf 0 (goodTable bs) .kind ≡ kindStatements → 24 ≤ length (goodTable bs)
-  good-some kind = record-or-none (goodTable bs)
-      (λ (h : length (goodTable bs) < 24).
-      let none : length (goodTable bs) ≡ 0 = omega (arith, good-length) in
-      let past : getD (goodTable bs) 0 0 ≡ 0 = List·getD-eq-default (goodTable bs) 0 (omega arith) in
-      absurd (omega arith))
-      (λ h. h)
+  -- if they begin with a Statements
+  pub good-root : nodeOf 0 (goodTable bs) .kind ≡ kindStatements → Rooted (goodTable bs)
+  good-root = rooted good-whole
 
 -- what is kept, from the good records and the header's number of nodes
 module _ (bs : List ℕ) (head : headGood bs ≡ true) where
@@ -300,7 +294,7 @@ module _ (bs : List ℕ) (head : headGood bs ≡ true) (some : 1 ≤ length (tab
             arith,
             ap length (cut .1),
             good-length bs,
-            cut-short (statementsKept bs w) (goodTable bs) (good-some bs kind) (good-whole bs),
+            cut-short (statementsKept bs w) (good-root bs kind),
           )
 
   pub kept-sound : soundCheck (kept bs) ≡ accepted []
@@ -336,8 +330,8 @@ module _ (bs : List ℕ) (head : headGood bs ≡ true) (some : 1 ≤ length (tab
             let cut = cut-some bs w some in
             let keep = keeps (goodTable bs) (contentAt bs .names) (cut .0) in
             let counts = head-says bs head .counts in
-            let long = cut-length (statementsKept bs w) (goodTable bs) (good-some bs keep.kind) (good-whole bs) in
-            let fits = cut-short (statementsKept bs w) (goodTable bs) (good-some bs keep.kind) (good-whole bs) in
+            let long = cut-length (statementsKept bs w) (good-root bs keep.kind) in
+            let fits = cut-short (statementsKept bs w) (good-root bs keep.kind) in
             rw (cut .1) (cut-small (statementsKept bs w) (goodTable bs) (omega (arith, good-length bs)) good-small)
 
     pub kept-content : SoundContent (kept bs)

@@ -6,7 +6,7 @@ use mathlib.Core.Path.{_≡_, refl, sym, ap, _∙_}
 use mathlib.Core.Bool.{Bool, true, false}
 use mathlib.Core.Logic.{⊎-elim}
 use mathlib.Core.List.{List, []}
-use Prim.Native.Nat.{ℕ, zero, suc, _*_, _/_, _<_, _≤_}
+use Prim.Native.Nat.{ℕ, zero, suc, _<_, _≤_}
 use native.Mathlib.Omega.{arith}
 use lib.ListN.{length}
 use lib.Dec.{eqb}
@@ -21,6 +21,7 @@ use Rattle.table.specs.Check.{checkOf}
 use Rattle.table.proofs.Checking.{check-values}
 use Rattle.rescue.specs.Cut.{children, cutTo, largest, childrenKept}
 use Rattle.rescue.specs.Steps.{keepable, leading}
+use Rattle.rescue.proofs.Cuts.{Rooted}
 use Rattle.rescue.proofs.Greedy.{each, each-fewer, leading-each, each-leading, leading-few}
 use Rattle.rescue.proofs.Greedy.{Passed, cut-accepted, cut-keepable}
 
@@ -64,17 +65,16 @@ largest-is p (suc n) m h here none =
     go false e g rest = rest
 
 -- a table of whole records that begins with a Statements
-module _ (t names : List ℕ) (some : 24 ≤ length t) (whole : 24 * (length t / 24) ≡ length t) (few : length t ≤ 50400)
-    (kind : nodeOf 0 t .kind ≡ kindStatements) where
+module _ {t : List ℕ} (names : List ℕ) (r : Rooted t) (few : length t ≤ 50400) where
   abbrev test : ℕ → Bool
   test k = passes (checkOf (cutTo k t) names)
 
-  passed : (k : ℕ) → test k ≡ true → Passed t names some whole kind k
-  passed k e = cut-keepable t names some whole kind k (passes-is (checkOf (cutTo k t) names) e .1)
+  passed : (k : ℕ) → test k ≡ true → Passed names r k
+  passed k e = cut-keepable names r k (passes-is (checkOf (cutTo k t) names) e .1)
 
   -- all cuts have the same root except for its size
-  same-root : (j k : ℕ) → Passed t names some whole kind j
-      → each (keepable (length names)) (firsts k (children t)) ≡ true → Passed t names some whole kind k
+  same-root : (j k : ℕ) → Passed names r j
+      → each (keepable (length names)) (firsts k (children t)) ≡ true → Passed names r k
   same-root j k p good = record { named = p .named; fields = p .fields; file = p .file; good = good }
 
   -- THEOREM: if k children can be kept, so can fewer
@@ -82,14 +82,14 @@ module _ (t names : List ℕ) (some : 24 ≤ length t) (whole : 24 * (length t /
   fewer-pass j k less e =
       let p = passed k e in
       let good = each-fewer _ j k (children t) less (p .good) in
-      rw (cut-accepted t names some whole kind j few (same-root k j p good)) refl
+      rw (cut-accepted names r j few (same-root k j p good)) refl
 
   abbrev pub most : ℕ
   most = leading (keepable (length names)) (children t)
 
   kept-largest : childrenKept t names ≡ largest test (length (roots (children t)))
   unfolding childrenKept
-  kept-largest = rw (eq-eqb (nodeOf 0 t .kind) kindStatements kind) refl
+  kept-largest = rw (eq-eqb (nodeOf 0 t .kind) kindStatements (r .kind)) refl
 
   -- THEOREM: the greedy walk finds the largest number
   pub kept-is : test most ≡ true → childrenKept t names ≡ most
@@ -102,7 +102,7 @@ module _ (t names : List ℕ) (some : 24 ≤ length t) (whole : 24 * (length t /
       ∙ largest-is test (length (roots (children t))) 0 (omega arith) (λ h. absurd (omega arith))
       (λ j l p u.
       let q = same-root j most (passed j p) (leading-each _ (children t)) in
-      clash (ap passes (cut-accepted t names some whole kind most few q)) e)
+      clash (ap passes (cut-accepted names r most few q)) e)
 
 -- what is kept of a table, if anything is: the root is a Statements with that number of children, their cut passes, and
 -- no larger number passes

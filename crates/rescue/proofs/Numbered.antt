@@ -26,8 +26,8 @@ use Rattle.rescue.specs.Job.{tableKept}
 use Rattle.rescue.specs.Claims.{Rescue, Passes}
 use Rattle.rescue.specs.Steps.{keepable}
 use Rattle.rescue.proofs.Greedy.{each, keepable-is, Passed, cut-keepable}
-use Rattle.rescue.proofs.Keeping.{good-some, good-whole, kept-checked}
-use Rattle.rescue.proofs.Theorems.{all-says, nothing-can-be-kept}
+use Rattle.rescue.proofs.Keeping.{good-root, kept-checked}
+use Rattle.rescue.proofs.Theorems.{done, all-says, nothing-can-be-kept}
 
 -- the first of the children that can be kept has a source file number
 first-number : (m j : ℕ) (row : List ℕ) → 1 ≤ j → j ≤ length (roots (forest 1 row))
@@ -48,8 +48,8 @@ module _ (bs : List ℕ) (j : ℕ) (q : Passes bs j) where
   abbrev t : List ℕ
   t = goodTable bs
 
-  passed : Passed t (contentAt bs .names) (good-some bs (q .0)) (good-whole bs) (q .0) j
-  passed = cut-keepable t (contentAt bs .names) (good-some bs (q .0)) (good-whole bs) (q .0) j (q .2)
+  passed : Passed (contentAt bs .names) (good-root bs (q .0)) j
+  passed = cut-keepable (contentAt bs .names) (good-root bs (q .0)) j (q .2)
 
   root-zero : nodeOf 0 t .file ≡ 0
   root-zero = eqb-true (nodeOf 0 t .file) 0 (passed .file)
@@ -65,7 +65,7 @@ module _ (bs buffer : List ℕ) (r : Rescued) (after : List ℕ) (p : Rescue bs 
   -- THEOREM: the numbers of what is kept are sound
   pub kept-files : (k : Kept) → r ≡ Accepted k → filesSound (forest 0 (tableKept bs)) ≡ true
   kept-files k e =
-      let s = all-says bs buffer r after p k e in
+      let s = all-says (done p e) in
       accepted-files (tableKept bs) (contentAt bs .names) (kept-checked bs (s .head) (s .some))
 
   module _ (head : headGood bs ≡ true) (bad : blocksPass bs ≡ false) where

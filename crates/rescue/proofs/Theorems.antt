@@ -26,10 +26,10 @@ use Rattle.table.proofs.Checking.{accepted-clean}
 use Rattle.blocks.specs.Block.{demand, judge}
 use Rattle.blocks.proofs.Blocks.{passes as passed-block}
 use Rattle.tablefile.specs.File.{Content, fileOf}
-use Rattle.tablefile.specs.Reading.{headerAt, usedOf, contentAt, countsFit, frontCheck, soundCheck, readCheck}
+use Rattle.tablefile.specs.Reading.{headerAt, usedOf, contentAt, frontCheck, soundCheck, readCheck}
 use Rattle.tablefile.specs.Loading.{loadedOf}
 use Rattle.tablefile.specs.declared.Verdict.the-variants as verdicts
-use Rattle.tablefile.proofs.Fronts.{Fronted, first-is, taken-is, dialect-few, table-length}
+use Rattle.tablefile.proofs.Fronts.{Fronted, small-fits, first-is, taken-is, dialect-few, table-length}
 use Rattle.tablefile.proofs.Accepted.{read-fronted, read-whole, read-is-sound, sound-known, SoundContent}
 use Rattle.tablefile.proofs.Accepted.{back-accepted, back-holds}
 use Rattle.tablefile.proofs.Theorems.{Read, file-read-back}
@@ -47,7 +47,7 @@ use Rattle.rescue.proofs.Promises.{rescued-injective}
 use Rattle.rescue.proofs.Cuts.{cut-length, cut-children, cut-kind, cut-byte}
 use Rattle.rescue.proofs.Largest.{keeps, none-larger}
 use Rattle.rescue.proofs.Keeping.{names-long, whole-checked, whole-kept, whole-fronted, whole-file, cut-some}
-use Rattle.rescue.proofs.Keeping.{cut-kept, good-some, good-whole, kept-content, kept-read, kept-held}
+use Rattle.rescue.proofs.Keeping.{cut-kept, good-root, kept-content, kept-read, kept-held}
 
 -- the answer, from its three tests
 abbrev pub steps : Bool → Bool → Bool → List ℕ → Answer
@@ -145,7 +145,7 @@ module _ (bs : List ℕ) (w : blocksPass bs ≡ false) where
   some-kept : 1 ≤ childrenKept t names → 1 ≤ length (tableKept bs)
   some-kept some =
       let kind = keeps t names some .kind in
-      let long = cut-length (childrenKept t names) t (good-some bs kind) (good-whole bs) in
+      let long = cut-length (childrenKept t names) (good-root bs kind) in
       let is : tableKept bs ≡ cutTo (childrenKept t names) t =
       rw (cut-kept bs w, le-leb 1 (childrenKept t names) some) refl in
       omega (arith, ap length is)
@@ -195,11 +195,10 @@ module _ (bs : List ℕ) (w : blocksPass bs ≡ false) (some : 1 ≤ length (tab
   own-statements =
       let cut = cut-some bs w some in
       let k = keeps (goodTable bs) (contentAt bs .names) (cut .0) in
-      let big = good-some bs k.kind in
-      let kind : nodeOf 0 (cutTo own (goodTable bs)) .kind ≡ kindStatements =
-      cut-kind own (goodTable bs) big (good-whole bs) ∙ k.kind in
+      let root = good-root bs k.kind in
+      let kind : nodeOf 0 (cutTo own (goodTable bs)) .kind ≡ kindStatements = cut-kind own root ∙ k.kind in
       rw (cut .1, eq-eqb (nodeOf 0 (cutTo own (goodTable bs)) .kind) kindStatements kind)
-      (ap (λ (f : Forest). length (roots f)) (cut-children own (goodTable bs) big (good-whole bs))
+      (ap (λ (f : Forest). length (roots f)) (cut-children own root)
       ∙ firsts-roots own (children (goodTable bs)) k.there)
 
   largest : (k : Kept) → k .statements ≡ statementsOf (tableKept bs) → Largest bs k
@@ -214,14 +213,18 @@ module _ (bs : List ℕ) (w : blocksPass bs ≡ false) (some : 1 ≤ length (tab
         none = λ j less p. omega (arith, at-least bs w j p);
       }
 
--- the counts, and the buffer at exit
-module _ (bs buffer : List ℕ) (r : Rescued) (after : List ℕ) (p : Rescue bs buffer r after) (k : Kept)
-    (good : r ≡ Accepted k) where
-  answer-is : rescueOf bs (length buffer) ≡ accepted (told k)
-  answer-is = sym (p .0) ∙ ap rescued good
+-- an accepted rescue: its answer, and the buffer at exit
+pub record Done (bs buffer : List ℕ) (k : Kept) (after : List ℕ) : Type 0 where
+  pub answer : rescueOf bs (length buffer) ≡ accepted (told k)
+  pub exit : after ≡ fileAfter bs buffer
 
+pub done : {bs buffer : List ℕ} {r : Rescued} {after : List ℕ} → Rescue bs buffer r after → {k : Kept} → r ≡ Accepted k
+    → Done bs buffer k after
+done p good = record { answer = sym (p .0) ∙ ap rescued good; exit = p .1 }
+
+module _ {bs buffer : List ℕ} {k : Kept} {after : List ℕ} (d : Done bs buffer k after) where
   pub all-says : Says bs (length buffer) (told k)
-  all-says = says bs (length buffer) answer-is
+  all-says = says bs (length buffer) (d .answer)
 
   pub all-counted : Counted bs k
   all-counted =
@@ -245,7 +248,7 @@ module _ (bs buffer : List ℕ) (r : Rescued) (after : List ℕ) (p : Rescue bs 
 
   rescued-is : after ≡ fileOf (kept bs) ++ drop (k .bytes) buffer
   unfolding fileAfter
-  rescued-is = p .1 ∙ rw (answer-is, bytes-told) (over-front (fileOf (kept bs)) buffer)
+  rescued-is = d .exit ∙ rw (d .answer, bytes-told) (over-front (fileOf (kept bs)) buffer)
 
   pub front-is : take (k .bytes) after ≡ fileOf (kept bs)
   front-is = ap (take (k .bytes)) rescued-is
@@ -256,48 +259,50 @@ module _ (bs buffer : List ℕ) (r : Rescued) (after : List ℕ) (p : Rescue bs 
       ∙ drop-at (fileOf (kept bs)) (drop (k .bytes) buffer) (k .bytes) (sym bytes-told)
 
 pub counts : Counts
-counts bs buffer r after p k good = all-counted bs buffer r after p k good
+counts bs buffer r after p k good = all-counted (done p good)
 
 pub largest-number : LargestNumber
-largest-number bs buffer r after p k good w = largest bs w (all-says bs buffer r after p k good .some) k
-    (all-counted bs buffer r after p k good .statements)
+largest-number bs buffer r after p k good w =
+    let d = done p good in largest bs w (all-says d .some) k (all-counted d .statements)
 
 pub past-stays : PastStays
 unfolding fileAfter
 past-stays bs buffer r after p = (
-  λ k good. past-is bs buffer r after p k good,
+  λ k good. past-is (done p good),
   λ why e. let is : rescueOf bs (length buffer) ≡ refusal why = sym (p .0) ∙ ap rescued e in p .1 ∙ rw is refl,
 )
 
 -- CLAIM 4
 pub read-back : ReadBack
 read-back bs buffer r after p k good small s read =
-    let says = all-says bs buffer r after p k good in
-    let read' : Read (fileOf (kept bs)) s = rw (front-is bs buffer r after p k good) at read in
-    file-read-back (kept bs) s (kept-content bs (says .head) (says .some) small) read'
-    ∙ ap (loadedOf verdicts.Accepted (kept bs)) (sym (bytes-told bs buffer r after p k good))
+    let d = done p good in
+    let read' : Read (fileOf (kept bs)) s = rw (front-is d) at read in
+    file-read-back (kept bs) s (kept-content bs (all-says d .head) (all-says d .some) small) read'
+    ∙ ap (loadedOf verdicts.Accepted (kept bs)) (sym (bytes-told d))
 
 -- CLAIM 5
 pub given-back : GivenBack
-given-back bs buffer r after p k good small w = record {
-  blocks = front-is bs buffer r after p k good ∙ whole-file bs w small;
-  nothing = omega (
-    arith,
-    all-counted bs buffer r after p k good .dropped,
-    all-counted bs buffer r after p k good .nodes,
-    ap (λ (c : Content). length (c .table)) (whole-kept bs w),
-    table-length bs (whole-fronted bs w),
-  );
-}
+given-back bs buffer r after p k good small w =
+    let d = done p good in
+    record {
+      blocks = front-is d ∙ whole-file bs w small;
+      nothing = omega (
+        arith,
+        all-counted d .dropped,
+        all-counted d .nodes,
+        ap (λ (c : Content). length (c .table)) (whole-kept bs w),
+        table-length bs (whole-fronted bs w),
+      );
+    }
 
 -- CLAIM 7
 pub only-size : OnlySize
 only-size bs w i inside low high =
     let cut = cut-some bs w (omega arith) in
     let own : ℕ = childrenKept (goodTable bs) (contentAt bs .names) in
-    let big = good-some bs (keeps (goodTable bs) (contentAt bs .names) (cut .0) .kind) in
-    let long = cut-length own (goodTable bs) big (good-whole bs) in
-    rw (cut .1) (cut-byte own (goodTable bs) big (good-whole bs) i (omega (arith, ap length (cut .1))) low high)
+    let root = good-root bs (keeps (goodTable bs) (contentAt bs .names) (cut .0) .kind) in
+    let long = cut-length own root in
+    rw (cut .1) (cut-byte own root i (omega (arith, ap length (cut .1))) low high)
 
 -- a file that the reader accepts has a good header, and its blocks pass
 module _ (file : List ℕ) (e : readCheck file ≡ accepted []) where
@@ -311,21 +316,13 @@ module _ (file : List ℕ) (e : readCheck file ≡ accepted []) where
       bytesLeftOver) (λ _. soundCheck (contentAt file))) e in
       rw (both .1, read-is-sound file e) refl
 
-  counts-fit : countsFit (headerAt file .nodes) (headerAt file .names) ≡ true
-  unfolding countsFit
-  counts-fit = rw (
-    le-leb 1 (headerAt file .nodes) (fronted .counts .0),
-    le-leb (headerAt file .nodes) 2100 (fronted .counts .1),
-    le-leb (headerAt file .names) 8064 (fronted .counts .2),
-  ) refl
-
   pub read-head : headGood file ≡ true
   unfolding headGood
   read-head =
       let known = sound-known (contentAt file) (read-is-sound file e) in
       rw (
         passed-block 0 (usedOf (headerAt file)) file (fronted .header),
-        counts-fit,
+        small-fits (fronted .counts),
         known .decoded,
         known .held,
         fronted .names,
@@ -350,48 +347,38 @@ module _ (file : List ℕ) (e : readCheck file ≡ accepted []) where
       ≡ accepted (length file ∷ statementsOf (contentAt file .table) ∷ length (contentAt file .table) / 24 ∷ 0 ∷ 0 ∷ [])
   read-rescued room fits =
       said file room read-head
-      (omega (arith, ap length read-kept, table-length file fronted, fronted .counts .0))
+      (omega (arith, ap length read-kept, table-length file fronted, fronted .counts .some))
       (omega (arith, read-bytes))
       ∙ ap accepted read-told
 
 -- CLAIM 6: the output is a file that the reader accepts, of the table that is kept
-module _ (bs buffer : List ℕ) (r : Rescued) (after : List ℕ) (p : Rescue bs buffer r after) (k : Kept)
-    (good : r ≡ Accepted k) (small : Bytes bs) where
+module _ {bs buffer : List ℕ} {k : Kept} {after : List ℕ} (d : Done bs buffer k after) (small : Bytes bs) where
   abbrev file : List ℕ
   file = fileOf (kept bs)
 
   abbrev same : Kept
   same = record { bytes = k .bytes; statements = k .statements; nodes = k .nodes; dropped = 0; after = 0 }
 
-  head-and-some : Says bs (length buffer) (told k)
-  head-and-some = all-says bs buffer r after p k good
-
   file-read : readCheck file ≡ accepted []
-  file-read = kept-read bs (head-and-some .head) (head-and-some .some) small
+  file-read = kept-read bs (all-says d .head) (all-says d .some) small
 
   file-held : contentAt file ≡ kept bs
-  file-held = kept-held bs (head-and-some .head) (head-and-some .some) small
+  file-held = kept-held bs (all-says d .head) (all-says d .some) small
 
   answer-again : (room : ℕ) → k .bytes ≤ room → rescueOf file room ≡ rescued (Accepted same)
   answer-again room fits =
-      let long = bytes-told bs buffer r after p k good in
-      let counted = all-counted bs buffer r after p k good in
       let held : contentAt file .table ≡ tableKept bs = ap (λ (c : Content). c .table) file-held in
-      read-rescued file file-read room (omega (arith, long))
-      ∙ rw (held, long, counted .statements, counted .nodes) refl
+      read-rescued file file-read room (omega (arith, bytes-told d))
+      ∙ rw (held, bytes-told d, all-counted d .statements, all-counted d .nodes) refl
 
 pub again : Again
 again bs buffer r after p k good small buffer′ r′ later p′ room =
-    let front = front-is bs buffer r after p k good in
-    let q : Rescue (fileOf (kept bs)) buffer′ r′ later = rw front at p′ in
-    let all : Kept = same bs buffer r after p k good small in
-    let is : r′ ≡ Accepted all = rescued-injective r′ (Accepted all)
-    (q .0 ∙ answer-again bs buffer r after p k good small (length buffer′) room) in
-    let whole = whole-kept _ (read-passes _ (file-read bs buffer r after p k good small)) in (
-      is,
-      front-is _ buffer′ r′ later q all is
-          ∙ ap fileOf (whole ∙ file-held bs buffer r after p k good small) ∙ sym front,
-    )
+    let d = done p good in
+    let q : Rescue (fileOf (kept bs)) buffer′ r′ later = rw (front-is d) at p′ in
+    let is : r′ ≡ Accepted (same d small) = rescued-injective r′ (Accepted (same d small))
+    (q .0 ∙ answer-again d small (length buffer′) room) in
+    let whole = whole-kept _ (read-passes _ (file-read d small)) in
+    (is, front-is (done q is) ∙ ap fileOf (whole ∙ file-held d small) ∙ sym (front-is d))
 
 -- the claims are not empty: no bytes at all are 90, and the file of any sound content is accepted
 pub empty-is-90 : (room : ℕ) → rescueOf [] room ≡ refused badHeader []

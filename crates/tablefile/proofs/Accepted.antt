@@ -51,24 +51,29 @@ verdict-injective Accepted (Refused s) e = never-accepted s (sym e)
 verdict-injective (Refused r) Accepted e = never-accepted r e
 verdict-injective (Refused r) (Refused s) e = ap Refused (refusal-injective r s e)
 
--- an accepted file
+-- an accepted file: its blocks pass, nothing is left over, and its content passes 1 to 5
+record Steps (bs : List ℕ) : Type 0 where
+  fronted : Fronted bs
+  whole : leb (length bs) (headerAt bs .taken) ≡ true
+  sound : soundCheck (contentAt bs) ≡ accepted []
+
 module _ (bs : List ℕ) (e : readCheck bs ≡ accepted []) where
-  steps : Fronted bs × (leb (length bs) (headerAt bs .taken) ≡ true) × (soundCheck (contentAt bs) ≡ accepted [])
+  steps : Steps bs
   unfolding readCheck
   steps =
       let sound : Unit {0} → Answer = λ _. soundCheck (contentAt bs) in
       let one = fronted-then bs (λ _. andThen (demand (leb (length bs) (headerAt bs .taken)) bytesLeftOver) sound) e in
       let two = demand-then (leb (length bs) (headerAt bs .taken)) bytesLeftOver sound (one .1) in
-      (one .0, two .0, two .1)
+      record { fronted = one .0; whole = two .0; sound = two .1 }
 
   pub read-fronted : Fronted bs
-  read-fronted = steps .0
+  read-fronted = steps .fronted
 
   pub read-whole : length bs ≡ headerAt bs .taken
-  read-whole = omega (arith, leb-true (length bs) (headerAt bs .taken) (steps .1), taken-there bs read-fronted)
+  read-whole = omega (arith, leb-true (length bs) (headerAt bs .taken) (steps .whole), taken-there bs read-fronted)
 
   pub read-is-sound : soundCheck (contentAt bs) ≡ accepted []
-  read-is-sound = steps .2
+  read-is-sound = steps .sound
 
   pub read-is-file : Bytes bs → bs ≡ fileOf (contentAt bs)
   read-is-file small = sym (take-all (headerAt bs .taken) bs (omega (arith, read-whole)))

@@ -90,37 +90,44 @@ module _ {bs d : List ℕ} {first len : ℕ} {out : List ℕ} {number done : ℕ
       rw (tail-part done out) (simp length-drop (omega (arith, s .room, s .long))),
     )
 
+    -- the buffer after a turn: what was copied before, the bytes of this block, and the rest
+    abbrev front : List ℕ
+    front = take done out ++ take used here
+
+    front-long : length front ≡ done + used
+    front-long = simp (
+      length-append,
+      length-take-le done out (omega (arith, s .room, s .long)),
+      length-take-le used here (copy-fits .0),
+    ) refl
+
+    turn-is : {ys : List ℕ} → ys ≡ take used here ++ drop used (take (length out - done) (drop done out))
+        → putMid done (length out - done) out ys ≡ front ++ drop (done + used) out
+    turn-is {ys} ys-is =
+        let tail : ys ≡ take used here ++ drop (done + used) out =
+        rw (tail-part done out, drop-drop used done out) at ys-is in
+        put-tail done out ys ∙ rw tail (sym (append-assoc (take done out) (take used here) (drop (done + used) out)))
+
     pub copy-on : {ys : List ℕ} → ys ≡ take used here ++ drop used (take (length out - done) (drop done out))
         → Copying bs d first len (putMid done (length out - done) out ys) (number + 1) (done + used)
-    copy-on {ys} ys-is =
-        let a : List ℕ = take done out in
-        let b : List ℕ = take used here in
-        let z : List ℕ = drop (done + used) out in
-        let long-a : length a ≡ done = length-take-le done out (omega (arith, s .room, s .long)) in
-        let long-b : length b ≡ used = length-take-le used here (copy-fits .0) in
-        let long-ab : length (a ++ b) ≡ done + used = simp length-append (omega arith) in
-        let long-z : length z ≡ length out - (done + used) = length-drop (done + used) out in
-        let tail : ys ≡ b ++ z = rw (tail-part done out, drop-drop used done out) at ys-is in
-        let new : putMid done (length out - done) out ys ≡ (a ++ b) ++ z =
-        put-tail done out ys ∙ rw tail (sym (append-assoc a b z)) in
-        record {
-          upto = omega arith;
-          room = s .room;
-          long = rw new (simp length-append (omega (arith, s .room, s .long)));
-          there = rw left (omega (arith, s .there, blocks-more (len - done) (omega arith)));
-          behind = rw (new, drop-at (a ++ b) z (done + used) long-ab)
-              (sym (drop-drop used done out) ∙ ap (drop used) (s .behind) ∙ drop-drop used done d);
-          same = rw (
-            new,
-            take-at (a ++ b) z (done + used) long-ab,
-            left,
-            append-assoc a b (contentOf (len - done - 504) (drop (512 * (number + 1)) bs)),
-            here-is,
-            used-is,
-            ← content-next (len - done) number bs (omega arith) one,
-          )
-              (s .same);
-        }
+    copy-on ys-is = rw (turn-is ys-is) record {
+      upto = omega arith;
+      room = s .room;
+      long = length-append front (drop (done + used) out)
+          ∙ omega (arith, front-long, length-drop (done + used) out, s .room, s .long);
+      there = rw left (omega (arith, s .there, blocks-more (len - done) (omega arith)));
+      behind = drop-at front (drop (done + used) out) (done + used) front-long
+          ∙ sym (drop-drop used done out) ∙ ap (drop used) (s .behind) ∙ drop-drop used done d;
+      same = rw (
+        take-at front (drop (done + used) out) (done + used) front-long,
+        left,
+        append-assoc (take done out) (take used here) (contentOf (len - done - 504) (drop (512 * (number + 1)) bs)),
+        here-is,
+        used-is,
+        ← content-next (len - done) number bs (omega arith) one,
+      )
+          (s .same);
+    }
 
 -- the dialect
 module _ (bs : List ℕ) (len : ℕ) (h : 512 ≤ length bs) (few : len ≤ 9) where

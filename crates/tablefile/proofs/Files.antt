@@ -13,7 +13,6 @@ use native.Mathlib.Nat.{add-zero}
 use native.Mathlib.Omega.{arith}
 use lib.ListN.{length, getD, take, drop, set, replicate, length-append}
 use lib.Seq.{take-at, drop-at, take-take, take-add, drop-drop, take-set-le}
-use borrow.Author.Tests.{le-leb}
 use Rattle.fields.proofs.Basics.{drop-take, le-or-lt}
 use Rattle.dialect.specs.Editions.{statedBytes}
 use Rattle.dialect.specs.declared.Stated.{Stated}
@@ -35,7 +34,7 @@ use Rattle.tablefile.specs.File.{Content, headerOf, fileOf}
 use Rattle.tablefile.specs.Reading.{dialectIn, editionIn, headerAt, usedOf, statedIn, contentAt, countsFit}
 use Rattle.tablefile.specs.Reading.{blocksCheck, frontCheck}
 use Rattle.tablefile.proofs.Fronts.{first-is, taken-is, used-small, tail-is, Fronted, table-length}
-use Rattle.tablefile.proofs.Fronts.{names-length}
+use Rattle.tablefile.proofs.Fronts.{names-length, Small, small-fits, name-blocks, node-blocks}
 
 -- ---- a file at the front whose blocks pass is the file of its content
 module _ (bs : List ℕ) (small : Bytes bs) (f : Fronted bs) where
@@ -120,14 +119,6 @@ module _ (bs : List ℕ) (f : Fronted bs) (i v : ℕ) (other : v ≡ getD bs i 0
     unfolding headerAt
     same-header = rw (same-field 4 (omega arith), same-field 6 (omega arith), same-field 2 (omega arith)) refl
 
-    fits : countsFit (headerAt bs .nodes) (headerAt bs .names) ≡ true
-    unfolding countsFit
-    fits = rw (
-      le-leb 1 (headerAt bs .nodes) (f .counts .0),
-      le-leb (headerAt bs .nodes) 2100 (f .counts .1),
-      le-leb (headerAt bs .names) 8064 (f .counts .2),
-    ) refl
-
     later : frontCheck (set bs i v) ≡ andThen (judgeRun 1 (headerAt bs .names) (set (drop 512 bs) (i - 512) v))
         (λ _. judgeRun (headerAt bs .first) (24 * headerAt bs .nodes) (drop (512 * headerAt bs .first) (set bs i v)))
     unfolding blocksCheck
@@ -136,7 +127,7 @@ module _ (bs : List ℕ) (f : Fronted bs) (i v : ℕ) (other : v ≡ getD bs i 0
           same-header,
           judge-outside 0 (usedOf (headerAt bs)) bs i v h,
           passes 0 (usedOf (headerAt bs)) bs (f .header),
-          fits,
+          small-fits (f .counts),
           drop-set 512 bs i v h,
         )
         refl
@@ -359,35 +350,20 @@ module _ (c : Content) (fit : Fits c) (rest : List ℕ) where
   table-so : 24 * headerAt bs .nodes ≡ length (c .table)
   table-so = omega (arith, nodes-so, fit .whole)
 
-  first-small : blocksFor (length (c .names)) ≤ 16
-  unfolding blocksFor
-  first-small = omega (arith, fit .names)
+  counts-so : Small nodes (length (c .names))
+  counts-so = record { some = omega (arith, fit .some); few = omega (arith, fit .few); short = fit .names }
 
-  last-small : blocksFor (length (c .table)) ≤ 100
-  unfolding blocksFor
-  last-small = omega (arith, fit .few)
-
-  counts-so : countsFit (headerAt bs .nodes) (headerAt bs .names) ≡ true
-  unfolding countsFit
-  counts-so =
-      let some : 1 ≤ nodes = omega (arith, fit .some) in
-      let few : nodes ≤ 2100 = omega (arith, fit .few) in
-      rw (
-        nodes-so,
-        names-so,
-        le-leb 1 nodes some,
-        le-leb nodes 2100 few,
-        le-leb (length (c .names)) 8064 (fit .names),
-      ) refl
+  last-few : blocksFor (length (c .table)) ≤ 100
+  last-few = rw (fit .whole) at (node-blocks counts-so)
 
   names-pass : judgeRun 1 (headerAt bs .names) (drop 512 bs) ≡ accepted []
   names-pass = rw (names-so, names-behind)
-      (run-passes 1 (c .names) node-part (fit .names-bytes) (omega (arith, first-small)))
+      (run-passes 1 (c .names) node-part (fit .names-bytes) (omega (arith, name-blocks counts-so)))
 
   nodes-pass : judgeRun (headerAt bs .first) (24 * headerAt bs .nodes) (drop (512 * headerAt bs .first) bs)
       ≡ accepted []
   nodes-pass = rw (nodes-behind, first-so, table-so)
-      (run-passes first (c .table) rest (fit .table-bytes) (omega (arith, first-small, last-small)))
+      (run-passes first (c .table) rest (fit .table-bytes) (omega (arith, name-blocks counts-so, last-few)))
 
   -- THEOREM, in three parts: it passes, it holds the content, and its header states its length
   pub file-passes : frontCheck (fileOf c ++ rest) ≡ accepted []
@@ -395,7 +371,9 @@ module _ (c : Content) (fit : Fits c) (rest : List ℕ) where
   file-passes =
       let used : usedOf (headerAt bs) ≡ length (headerOf c) =
       omega (arith, dialect-so, edition-so, header-length, tail-length) in
-      rw (used, header-passes, counts-so, names-pass) nodes-pass
+      let fits : countsFit (headerAt bs .nodes) (headerAt bs .names) ≡ true =
+      rw (nodes-so, names-so) (small-fits counts-so) in
+      rw (used, header-passes, fits, names-pass) nodes-pass
 
   pub file-holds : contentAt (fileOf c ++ rest) ≡ c
   unfolding contentAt

@@ -12,7 +12,7 @@ use native.Mathlib.Omega.{arith}
 use lib.ListN.{length, take, drop, length-drop}
 use lib.Seq.{take-add, drop-drop}
 use lib.Dec.{eqb, leb}
-use borrow.Author.Tests.{eq-eqb, ne-eqb, leb-true}
+use borrow.Author.Tests.{eq-eqb, ne-eqb, leb-true, le-leb}
 use Rattle.fields.specs.Choice.{if'}
 use Rattle.fields.specs.Field.{field}
 use Rattle.fields.proofs.Fields.{field-take, tail-part}
@@ -37,6 +37,7 @@ use Rattle.blocks.specs.declared.Judged.the-variants.{Passed}
 use Rattle.blocks.specs.declared.Judged.the-variants as judgements
 use Rattle.blocks.proofs.Blocks.{Passing, passing, passing-then}
 use Rattle.blocks.proofs.Runs.{run-long, run-then, content-long}
+use Rattle.tablefile.specs.File.{mostBlocks}
 use Rattle.tablefile.specs.Reading.{dialectIn, editionIn, headerAt, usedOf, statedIn, contentAt, countsFit}
 use Rattle.tablefile.specs.Reading.{blocksCheck, frontCheck, soundCheck}
 use Rattle.tablefile.specs.declared.Heading.{Heading}
@@ -147,15 +148,40 @@ module _ (bs : List ℕ) where
   tail-is = take-add (headerAt bs .dialect) (headerAt bs .edition) (drop 8 bs)
       ∙ rw (drop-drop (headerAt bs .dialect) 8 bs, edition-behind, stated-is, dialect-is) refl
 
--- counts that fit
-pub counts-small : (nodes names : ℕ) → countsFit nodes names ≡ true → (1 ≤ nodes) × (nodes ≤ 2100) × (names ≤ 8064)
+-- counts within their limits
+pub record Small (nodes names : ℕ) : Type 0 where
+  pub some : 1 ≤ nodes
+  pub few : nodes ≤ 2100
+  pub short : names ≤ 8064
+
+pub counts-small : (nodes names : ℕ) → countsFit nodes names ≡ true → Small nodes names
 unfolding countsFit
 counts-small nodes names e =
-    let rest = and-right (leb 1 nodes) (leb nodes 2100 && leb names 8064) e in (
-      leb-true 1 nodes (and-left (leb 1 nodes) (leb nodes 2100 && leb names 8064) e),
-      leb-true nodes 2100 (and-left (leb nodes 2100) (leb names 8064) rest),
-      leb-true names 8064 (and-right (leb nodes 2100) (leb names 8064) rest),
-    )
+    let rest = and-right (leb 1 nodes) (leb nodes 2100 && leb names 8064) e in
+    record {
+      some = leb-true 1 nodes (and-left (leb 1 nodes) (leb nodes 2100 && leb names 8064) e);
+      few = leb-true nodes 2100 (and-left (leb nodes 2100) (leb names 8064) rest);
+      short = leb-true names 8064 (and-right (leb nodes 2100) (leb names 8064) rest);
+    }
+
+pub small-fits : {nodes names : ℕ} → Small nodes names → countsFit nodes names ≡ true
+unfolding countsFit
+small-fits {nodes} {names} s =
+    rw (le-leb 1 nodes (s .some), le-leb nodes 2100 (s .few), le-leb names 8064 (s .short)) refl
+
+-- LAW: so few blocks are theirs: at most 16, at most 100, and at most 117 with block 0
+module _ {nodes names : ℕ} (s : Small nodes names) where
+  pub name-blocks : blocksFor names ≤ 16
+  unfolding blocksFor
+  name-blocks = omega (arith, s .short)
+
+  pub node-blocks : blocksFor (24 * nodes) ≤ 100
+  unfolding blocksFor
+  node-blocks = omega (arith, s .few)
+
+pub taken-few : (bs : List ℕ) → Small (headerAt bs .nodes) (headerAt bs .names)
+    → headerAt bs .taken ≤ 512 * mostBlocks
+taken-few bs s = omega (arith, name-blocks s, node-blocks s, taken-is bs, first-is bs)
 
 pub used-small : (bs : List ℕ) {h : Heading} → h ≡ headerAt bs → usedOf h ≤ 14
 used-small bs h-is = rw h-is (omega (arith, dialect-few bs, edition-few bs))
@@ -204,15 +230,16 @@ names-long bs {h} h-is r r-is r-good long =
 -- with counts within the limits, every product fits the machine's numbers
 module _ (bs : List ℕ) {h : Heading} (h-is : h ≡ headerAt bs) {f : Bool}
     (f-is : f ≡ countsFit (h .nodes) (h .names)) (f-yes : f ≡ true) where
-  small : (1 ≤ h .nodes) × (h .nodes ≤ 2100) × (h .names ≤ 8064)
+  small : Small (h .nodes) (h .names)
   small = counts-small (h .nodes) (h .names) (sym f-is ∙ f-yes)
 
   pub nodes-fit : 24 * h .nodes < 2 ^ 64
   nodes-fit = omega (arith, small)
 
   first-few : h .first ≤ 17
-  unfolding blocksFor
-  first-few = let first : h .first ≡ 1 + blocksFor (h .names) = rw h-is (first-is bs) in omega (arith, small, first)
+  first-few =
+      let first : h .first ≡ 1 + blocksFor (h .names) = rw h-is (first-is bs) in
+      omega (arith, name-blocks small, first)
 
   pub first-word : h .first < 2 ^ 16
   first-word = omega (arith, first-few)
@@ -223,7 +250,7 @@ module _ (bs : List ℕ) {h : Heading} (h-is : h ≡ headerAt bs) {f : Bool}
 -- what the blocks of a file fulfil if they pass
 pub record Fronted (bs : List ℕ) : Type 0 where
   pub header : Passing 0 (usedOf (headerAt bs)) bs
-  pub counts : (1 ≤ headerAt bs .nodes) × (headerAt bs .nodes ≤ 2100) × (headerAt bs .names ≤ 8064)
+  pub counts : Small (headerAt bs .nodes) (headerAt bs .names)
   pub names : judgeRun 1 (headerAt bs .names) (drop 512 bs) ≡ accepted []
   pub nodes : judgeRun (headerAt bs .first) (24 * headerAt bs .nodes) (drop (512 * headerAt bs .first) bs) ≡ accepted []
 
@@ -234,32 +261,34 @@ demand-then true n next e = (refl, e)
 demand-then false n next e = never-passed e
 
 module _ (bs : List ℕ) where
+  abbrev head : Heading
+  head = headerAt bs
+
+  -- the tests after block 0, after its counts, and after the names
+  abbrev nodesPass : Unit {0} → Answer
+  nodesPass _ = judgeRun (head .first) (24 * head .nodes) (drop (512 * head .first) bs)
+
+  abbrev namesPass : Unit {0} → Answer
+  namesPass _ = andThen (judgeRun 1 (head .names) (drop 512 bs)) nodesPass
+
+  abbrev countsPass : Unit {0} → Answer
+  countsPass _ = andThen (demand (countsFit (head .nodes) (head .names)) blockCounts) namesPass
+
   -- LAW: a file at the front whose blocks pass, and what follows it
   pub fronted-then : (next : Unit {0} → Answer) → andThen (frontCheck bs) next ≡ accepted []
       → Fronted bs × (next tt ≡ accepted [])
   unfolding blocksCheck
   fronted-then next e =
-      let nodes : Unit {0} → Answer = λ _. judgeRun (headerAt bs .first) (24 * headerAt bs .nodes)
-      (drop (512 * headerAt bs .first) bs) in
-      let names : Unit {0} → Answer = λ _. andThen (judgeRun 1 (headerAt bs .names) (drop 512 bs)) nodes in
-      let fit : Bool = countsFit (headerAt bs .nodes) (headerAt bs .names) in
-      let counts : Unit {0} → Answer = λ _. andThen (demand fit blockCounts) names in
-      let one = passing-then 0 (usedOf (headerAt bs)) bs (λ _. andThen (counts tt) next)
-      (sym (after-both (judge 0 (usedOf (headerAt bs)) bs) counts next) ∙ e) in
-      let two = demand-then fit blockCounts (λ _. andThen (names tt) next)
-      (sym (after-both (demand fit blockCounts) names next) ∙ one .1) in
-      let three = run-then 1 (headerAt bs .names) (drop 512 bs) (λ _. andThen (nodes tt) next)
-      (sym (after-both (judgeRun 1 (headerAt bs .names) (drop 512 bs)) nodes next) ∙ two .1) in
-      let four = run-then (headerAt bs .first) (24 * headerAt bs .nodes) (drop (512 * headerAt bs .first) bs) next
-      (three .1) in (
-        record {
-          header = one .0;
-          counts = counts-small (headerAt bs .nodes) (headerAt bs .names) (two .0);
-          names = three .0;
-          nodes = four .0;
-        },
-        four .1,
-      )
+      let fit : Bool = countsFit (head .nodes) (head .names) in
+      let one = passing-then 0 (usedOf head) bs (λ _. andThen (countsPass tt) next)
+      (sym (after-both (judge 0 (usedOf head) bs) countsPass next) ∙ e) in
+      let two = demand-then fit blockCounts (λ _. andThen (namesPass tt) next)
+      (sym (after-both (demand fit blockCounts) namesPass next) ∙ one .1) in
+      let three = run-then 1 (head .names) (drop 512 bs) (λ _. andThen (nodesPass tt) next)
+      (sym (after-both (judgeRun 1 (head .names) (drop 512 bs)) nodesPass next) ∙ two .1) in
+      let four = run-then (head .first) (24 * head .nodes) (drop (512 * head .first) bs) next (three .1) in
+      let counts = counts-small (head .nodes) (head .names) (two .0) in
+      (record { header = one .0; counts = counts; names = three .0; nodes = four .0 }, four .1)
 
   pub fronted : frontCheck bs ≡ accepted [] → Fronted bs
   fronted e = fronted-then (λ _. accepted []) (rw e refl) .0

@@ -133,40 +133,40 @@ unfolding readCheck fileCheck
 read-steps bs = sym (after-both (frontCheck bs)
     (λ _. demand (leb (length bs) (headerAt bs .taken)) bytesLeftOver) (λ _. soundCheck (contentAt bs)))
 
+-- 7: whether t and n bytes fit into buffers of a and b bytes
+abbrev roomFor : ℕ → ℕ → ℕ → ℕ → Unit {0} → Answer
+roomFor t n a b _ = demand (leb t a && leb n b) shortBuffer
+
 -- the whole job adds 7
 into-steps : (bs : List ℕ) (a b : ℕ) → intoCheck bs a b ≡ andThen (fileCheck bs) (λ _.
-    andThen (soundCheck (contentAt bs)) (λ _.
-    demand (leb (24 * headerAt bs .nodes) a && leb (headerAt bs .names) b) shortBuffer))
+    andThen (soundCheck (contentAt bs)) (roomFor (24 * headerAt bs .nodes) (headerAt bs .names) a b))
 unfolding intoCheck
 into-steps bs a b =
-    let room : Unit {0} → Answer =
-    λ _. demand (leb (24 * headerAt bs .nodes) a && leb (headerAt bs .names) b) shortBuffer in
+    let room : Unit {0} → Answer = roomFor (24 * headerAt bs .nodes) (headerAt bs .names) a b in
     ap (λ (x : Answer). andThen x room) (read-steps bs)
     ∙ after-both (fileCheck bs) (λ _. soundCheck (contentAt bs)) room
 
 -- if 7 is passed, table and names fit
-room-there : (x : Answer) (t a n b : ℕ) {us : List ℕ}
-    → andThen x (λ _. demand (leb t a && leb n b) shortBuffer) ≡ accepted us → (t ≤ a) × (n ≤ b)
+room-there : (x : Answer) (t a n b : ℕ) {us : List ℕ} → andThen x (roomFor t n a b) ≡ accepted us
+    → (t ≤ a) × (n ≤ b)
 room-there x t a n b e =
     let fits : (leb t a && leb n b) ≡ true = test-passed (leb t a && leb n b) shortBuffer
-    (passed-both x (λ _. demand (leb t a && leb n b) shortBuffer) e .2) in
+    (passed-both x (roomFor t n a b) e .2) in
     (leb-true t a (and-left (leb t a) (leb n b) fits), leb-true n b (and-right (leb t a) (leb n b) fits))
 
 -- the returns of `judge_room`: 7 after an answer
 module _ (x : Answer) {q : Bool} (q-is : q ≡ isRefused x) (t a n b : ℕ) where
-  pub room-before : q ≡ true → x ≡ andThen x (λ _. demand (leb t a && leb n b) shortBuffer)
-  room-before h = stops refl q-is h (λ _. demand (leb t a && leb n b) shortBuffer)
+  pub room-before : q ≡ true → x ≡ andThen x (roomFor t n a b)
+  room-before h = stops refl q-is h (roomFor t n a b)
 
   module _ (h : q ≡ false) where
     passed : (us : List ℕ) × (x ≡ accepted us)
     passed = good-is {x = x} {y = x} refl q-is h
 
-    pub room-enough : (leb t a && leb n b) ≡ true
-        → accepted [] ≡ andThen x (λ _. demand (leb t a && leb n b) shortBuffer)
+    pub room-enough : (leb t a && leb n b) ≡ true → accepted [] ≡ andThen x (roomFor t n a b)
     room-enough fits = rw (passed .1, fits) refl
 
-    pub room-short : (leb t a && leb n b) ≡ false
-        → refused shortBuffer [] ≡ andThen x (λ _. demand (leb t a && leb n b) shortBuffer)
+    pub room-short : (leb t a && leb n b) ≡ false → refused shortBuffer [] ≡ andThen x (roomFor t n a b)
     room-short fits = rw (passed .1, fits) refl
 
 -- 70 to 75 carry no values
@@ -374,7 +374,7 @@ module _ {bs wt wn : List ℕ} (holds : Holds bs wt wn) {h : Heading} (h-is : h 
         dialect = take (length d) d;
         edition = edition;
       })) (a b : ℕ) {j : Answer}
-      (j-is : j ≡ andThen s (λ _. demand (leb (24 * h .nodes) a && leb (h .names) b) shortBuffer)) where
+      (j-is : j ≡ andThen s (roomFor (24 * h .nodes) (h .names) a b)) where
     sound-so : s ≡ soundCheck (contentAt bs)
     sound-so =
         let dialect : take (length d) d ≡ contentAt bs .dialect = take-all (length d) d (omega arith) ∙ d-is in
@@ -428,6 +428,5 @@ unfolding intoCheck readCheck
 into-fronted bs a b e =
     let rest : Unit {0} → Answer = λ _. andThen (demand (leb (length bs) (headerAt bs .taken)) bytesLeftOver)
     (λ _. soundCheck (contentAt bs)) in
-    let room : Unit {0} → Answer = λ _. demand (leb (24 * headerAt bs .nodes) a && leb (headerAt bs .names) b)
-    shortBuffer in
+    let room : Unit {0} → Answer = roomFor (24 * headerAt bs .nodes) (headerAt bs .names) a b in
     fronted-then bs (λ _. andThen (rest tt) room) (sym (after-both (frontCheck bs) rest room) ∙ e) .0

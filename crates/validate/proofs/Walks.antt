@@ -151,6 +151,11 @@ module _ {l : Listing} {all : Forest → List Err} {one : Tree → List Err} whe
           turns = next;
         }
 
+-- the invariant of the three loops over expressions: t is the stretch from the index at on
+abbrev pub Expressions : Listing → Dialect → List ℕ → List ℕ → ℕ → List ℕ → List ℕ → ℕ → ℕ → List ℕ → Type 0
+Expressions l d names t at xs₀ left place total xs =
+    Visiting l («visit_expr» d names) (expr d names) («visit_expr» d names (forest at t)) t xs₀ left place total xs
+
 -- the children of the first node, and the stretch of them that code makes
 abbrev pub children : ℕ → List ℕ → Forest
 children i t = forest (i + 1) (kidsOf t)

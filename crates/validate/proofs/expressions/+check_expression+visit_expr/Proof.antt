@@ -3,9 +3,7 @@
 use native.Mathlib.Omega.{arith}
 use lib.ListN.{length}
 use Prim.Native.Nat.{_+_, _*_}
-use Rattle.forest.specs.Forest.{forest}
-use Rattle.validate.specs.Module.{expr, «visit_expr»}
-use Rattle.validate.proofs.Walks.{expressions, Visiting, each-start, each-on, each-long, each-end, expr-short}
+use Rattle.validate.proofs.Walks.{expressions, Expressions, each-start, each-on, each-long, each-end, expr-short}
 use Rattle.validate.proofs.Walks.{expr-leaf, expr-on}
 use borrow.Author.Needs.{needs}
 use Prim.Native.Nat.{ℕ, _<_}
@@ -43,8 +41,7 @@ each-below t = and 3 each-kinds.ps (falls 3 each-kinds.ps _<_ μ-each t) each.Pr
 
 abbrev each-Inv-loop : each-lts.InvT-loop
 each-Inv-loop listing d names t at errors₀ left₀ place₀ total₀ errors left place total =
-    Visiting listing («visit_expr» d names) (expr d names) («visit_expr» d names (forest at t)) t errors₀ left place
-    total errors
+    Expressions listing d names t at errors₀ left place total errors
 
 abbrev each-μ-loop : each-lts.MeasureT-loop
 each-μ-loop listing d names t at errors₀ left₀ place₀ total₀ errors left place total = length left

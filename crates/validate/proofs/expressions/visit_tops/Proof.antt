@@ -1,17 +1,14 @@
 -- `validate::expressions::visit_tops` meets its contract: the statements at the top level, in turn. Assumes nothing.
 use native.Mathlib.Omega.{arith}
 use lib.ListN.{length}
-use Rattle.forest.specs.Forest.{forest}
-use Rattle.validate.specs.Module.{expr, «visit_expr»}
-use Rattle.validate.proofs.Walks.{expressions, Visiting, each-start, each-on, each-long, each-end, expr-short}
+use Rattle.validate.proofs.Walks.{expressions, Expressions, each-start, each-on, each-long, each-end, expr-short}
 use borrow.Author.Needs.{needs}
 use Rattle.validate.proofs.expressions.visit_tops.Statement.{statement}
 use Rattle.validate.proofs.expressions.visit_tops.Tie as tie
 
 abbrev Inv-loop : tie.InvT-loop
 Inv-loop listing d names t at errors₀ left₀ place₀ total₀ errors left place total =
-    Visiting listing («visit_expr» d names) (expr d names) («visit_expr» d names (forest at t)) t errors₀ left place
-    total errors
+    Expressions listing d names t at errors₀ left place total errors
 
 abbrev μ-loop : tie.MeasureT-loop
 μ-loop listing d names t at errors₀ left₀ place₀ total₀ errors left place total = length left
