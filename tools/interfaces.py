@@ -37,7 +37,7 @@ DIALECTS = {"Standard": "STANDARD", "Extended": "EXTENDED", "AllOptionsInternal"
 
 
 class Unmade(Exception):
-    """What cannot be made of the lists and the header."""
+    """The lists or the header do not give what is to be made."""
 
 
 def rows(name):
@@ -46,7 +46,7 @@ def rows(name):
 
 
 def capitals(name):
-    """IF_ELSE as IfElse; a name that has small letters stays."""
+    """IF_ELSE as IfElse; a name with small letters is not changed."""
     return "".join(word.capitalize() for word in name.split("_")) if name.isupper() else name
 
 
@@ -56,7 +56,7 @@ def constant(name):
 
 
 def in_c(words):
-    """Words as a comment or a string of C may hold them."""
+    """Words as they may be in a comment or a string of C."""
     if re.search(r'\*/|/\*|["\\]', words):
         raise Unmade(fault(f"docs/numbers.tsv: neither a comment nor a string of C may hold these words: {words}"))
     return words
@@ -87,12 +87,12 @@ def figure_enum():
 
 
 def switches():
-    """The names of a dialect's switches, as the code has them."""
+    """The names of a dialect's switches in the code."""
     return re.findall(r"^    pub (enable_\w+):", (CRATES / "dialect" / "src" / "lib.rt").read_text(), re.M)
 
 
 def dialects():
-    """The dialects that have a name, by the interfaces' names: their bytes, as the code has them."""
+    """The dialects that have a name, by the interfaces' names: their bytes in the code."""
     code = (CRATES / "dialect" / "src" / "lib.rt").read_text()
     names = re.findall(r"^    (\w+),$", re.search(r"^pub enum Name \{\n(.*?)^\}", code, re.M | re.S)[1], re.M)
     rows_found = [[int(digit) for digit in re.findall(r"\d", row)] for row in re.findall(r"^    \[([\d, ]+)\],$", code, re.M)]
@@ -255,7 +255,7 @@ def constants():
 
 
 def code_value(code, name):
-    """The number of a constant of the code: 4, or another constant plus a number; None where it is neither."""
+    """The number of a constant of the code: 4, or another constant plus a number; None if it is neither."""
     found = re.search(rf"^(?:pub )?const {name}: \w+ = (.*);", code, re.M)
     added = re.fullmatch(r"([A-Z_]+) \+ (\d+)", found[1]) if found else None
     if added:
@@ -296,7 +296,7 @@ def declared():
 
 
 def faults():
-    """All that is not as it must be."""
+    """All faults."""
     try:
         differ = [path for path, text in made().items() if not path.exists() or path.read_text() != text]
     except Unmade as unmade:

@@ -2,7 +2,7 @@
 """Makes cases for each kind of record from sentences about the kinds, with the answers that the sentences require.
 
 kinds.py            writes crates/cases/kinds.txt (cases in words) and, below its heading, the end of crates/cases/stdout (their answers)
-kinds.py --check    only reports whether they are what the sentences give and, where the scope and the requests are present, whether these have
+kinds.py --check    only reports whether they are what the sentences give and, if the scope and the requests are present, whether these have
                     the sentences
 
 The sentences are in crates/cases/sentences.txt; tools/gate/format.py compares them with docs/FORMAT.md. Nothing here is taken from the definitions or
@@ -48,7 +48,7 @@ OWNER = {"statement": [("{}", "statement")], "expression": [("{}", "expression")
 CHILD = {"statement": "(Break)", "expression": "(Int)", "parameter": "(NoArgs)", "argument": "(ArgsArg (Int))"}
 PLACE = {"statement": ("{}", 0), "expression": ("(OtherSimple {})", 1), "parameter": ("(Def {} (Break))", 1),
          "argument": ("(OtherSimple (Call (Int) {}))", 3)}
-# a place that takes records of one class alone, and the index of the record that is unsound where it holds another class
+# a place that takes records of one class only, and the index of the record that is unsound if it has another class
 HOLDER = {"statement": ("(Statements {})", 0), "expression": ("(OtherSimple {})", 0), "parameter": ("(Def {} (Break))", 0),
           "argument": ("(OtherSimple (Call (Int) {}))", 1)}
 
@@ -56,7 +56,7 @@ HOLDER = {"statement": ("(Statements {})", 0), "expression": ("(OtherSimple {})"
 ONE = {"statement": ["body statement", "statement"],
        "expression": ["target", "over", "condition", "value", "object", "callee", "return type", "type", "default", "body expression",
                       "one expression each"]}
-SOME = 3  # is tried for "any number"
+SOME = 3  # the numbers that are tried for "any number"
 
 
 class Unknown(Exception):
@@ -64,7 +64,7 @@ class Unknown(Exception):
 
 
 def counts(words, own):
-    """A part of a rule as a class, and how many children of it are allowed: as a test, and as the numbers that are tried."""
+    """A part of a rule as a class, and the allowed number of its children: as a test, and as the numbers that are tried."""
     for one, known in ONE.items():
         if words in known:
             return one, lambda n: n == 1, [1]
@@ -121,7 +121,7 @@ class Kind:
             yield tuple(itertools.chain.from_iterable([one] * n for (one, _, _), n in zip(parts, numbers)))
 
     def text(self, detail, children, words=None):
-        """The record in words, its name `a` where it has one."""
+        """The record in words, with the name `a` if it has one."""
         words = (" a" if self.named else "") if words is None else words
         below = "".join(" " + CHILD[child] for child in children)
         return f"({WORD[self.number]}{f':{detail}' if detail else ''}{words}{below})"
@@ -144,7 +144,7 @@ def read(text):
         if none:
             without = listed(none)
             if not without or any(kinds[n].rule != "none" for n in without):
-                raise Unknown(fault(f"document 01's words are not those of the rules before them: {none}"))
+                raise Unknown(fault(f"the list of kinds without children is not that of the rules before it: {none}"))
     for n in listed(re.search(r"Names stand on ([\d, and]*),", text)[1]):
         kinds[n].named = True
     for n, most in re.findall(r"\(kind (\d+): 0 to (\d+)\)", text):
@@ -264,7 +264,7 @@ def deep_of_kind(kind, kinds, cases):
 
 
 def first_wrong_file(tree, limits):
-    """The first record whose source file number is wrong, or None. Down the tree, as the sentences have it: a root Statements has 0 and its
+    """The first record whose source file number is wrong, or None. Down the tree, as in the sentences: a root Statements has 0 and its
     children are the top-level statements; another root is one itself; each has a number within the limits, and all records under it have the same."""
     root, = trees(tree)
     nodes = list(tables.preorder([root]))

@@ -7,7 +7,7 @@ states when it was measured, on which machine, and at which commit.
 measured.py gate LOG       from the log of ./test (target/test.log): its steps, and its crates one by one
 measured.py quick LOG      from the output of oracle/compare: the jobs of each family
 measured.py long LOG       from the output of oracle/compare --long
-measured.py jobs LOG       from the output of bench/run: its tables as they stand
+measured.py jobs LOG       from the output of bench/run: its tables, unchanged
 measured.py corpus LOG     from the output of bench/run --corpus
 measured.py versus LOG     from the output of bench/versus
 measured.py stack LOG      from the log of ./test or the output of bindings/run: the stack that each job needs
@@ -75,7 +75,7 @@ def jobs(log):
 
 
 def whole(log):
-    """What a benchmark prints, as it stands."""
+    """What a benchmark prints, unchanged."""
     return log.strip()
 
 

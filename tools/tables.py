@@ -84,8 +84,8 @@ def request(line, number):
 
 
 def format_case(job, label, words, text):
-    """A case of a format text: of `format` the third part of the line is the texts, and `words` has the words of the parts; of `parts` it is the
-    text, and `texts` has the room of the second buffer."""
+    """A case of a format text. In `format` the third part of the line is the texts, and `words` has the words of the parts. In `parts` it is the
+    text, and `texts` has the length of the second buffer."""
     said = dict(word.partition("=")[::2] for word in words)
     if not set(said) <= {"words", "bits", "room", "texts"}:
         raise TextError(0, fault(f"there is no such word for {job}: {' '.join(words)}"))
@@ -99,7 +99,7 @@ def text_of(path):
 
 
 def at_line(make, line, number):
-    """What is made of a line; what is wrong with it is reported with its number."""
+    """What is made from a line; an error in it is reported with its number."""
     try:
         return make(line, number)
     except TextError as error:
@@ -108,12 +108,12 @@ def at_line(make, line, number):
 
 
 def table_file(path):
-    """The table file that a text gives. A script that it names lies beside it."""
+    """The table file that a text gives. A script that it names is beside it."""
     return tables.read_text(text_of(path), lambda name: (pathlib.Path(path).parent / name).read_bytes()).file()
 
 
 def summed(made, at):
-    """Makes the sum of the block that byte `at` is in anew."""
+    """Updates the sum of the block that has byte `at`."""
     start = at // 512 * 512
     total = sum((p + 1) * byte for p, byte in enumerate(made[start:start + 508]))
     made[start + 508:start + 512] = struct.pack("<I", total)
@@ -148,7 +148,7 @@ def file_case(line, number):
 
 
 def lines_of(one):
-    """Makes all lines of a text by what makes one."""
+    """Makes all lines of a text with a function for one line."""
     def make(path):
         lines = enumerate(text_of(path).split("\n"), 1)
         return b"".join(at_line(one, line, number) for number, line in lines if line.strip())

@@ -4,7 +4,7 @@
 In a table or a sentence, `crates/a/b.antt`: `x`, `y` cites x and y of that file; a later `C.antt`: `z` is a file of the same folder. A path may
 omit crates/. A name counts where the file defines it, not where a comment or another definition has it. A name without a path that only
 code can mean (it has an inner hyphen, underscore or capital, or `::`) must be defined in some file; `a::b::c` in the sources of crate a, where
-there is such a crate. KNOWN has the words of that form that are no names of the repository. Status 1, with a line for each fault.
+there is such a crate. KNOWN has the words of that form that are not names of the repository. Status 1, with a line for each fault.
 """
 import ast
 import functools
@@ -17,7 +17,7 @@ from repository import CRATES, ROOT
 DOCUMENTS = ["README.md", "samples/README.md", *(f"docs/{name}.md" for name in ("COMMANDS", "CONTRIBUTING", "CRATES", "DECISIONS", "DIFFERENCES", "FORMAT",
                                                                               "JSON", "PROOFS", "RULES"))]
 PATH = re.compile(r"^[\w./+-]+\.(?:antt|rt|py|txt|tsv|md|h|c|rs|list|sha256)$")
-# a name that only code can mean: with an inner hyphen or underscore, with a capital behind a small letter, or a path of names
+# a name that only code can mean: with an inner hyphen or underscore, with a capital after a small letter, or a path of names
 NAME = re.compile(r"(?=.*(?:\w[-_]\w|[a-z][A-Z]|\w::\w))[^\W\d_][\w′]*(?:(?:-|::)[\w′]+)*")
 
 
@@ -102,7 +102,7 @@ def in_words(text):
     return re.findall(r"[\w′-]+", text)
 
 
-# files that are lists of names: the crates, the steps, the hooks, the numbers given back
+# files that are lists of names: the crates, the steps, the hooks, the numbers
 LISTS = ["crates.txt", ".ci/steps", ".pre-commit-hooks.yaml", "docs/numbers.tsv"]
 READ = {".antt": in_logic, ".rt": in_code, ".rs": in_code, ".py": in_python, ".h": in_c, ".c": in_c}
 
@@ -136,7 +136,7 @@ def of_crate(crate):
 
 
 def is_defined(name):
-    """Whether a name without a path is defined: behind a crate's name in that crate, else anywhere."""
+    """Whether a name without a path is defined: after a crate's name in that crate, otherwise anywhere."""
     first, *rest = name.split("::")
     if rest and (CRATES / first / "src").is_dir():
         return all(part in of_crate(first) for part in rest)

@@ -29,7 +29,7 @@ def spelled(words):
 
 
 def blanked(text):
-    """A source with its comments and literals as spaces, so that brackets and words of code alone are left. Places stay."""
+    """A source with its comments and literals as spaces, so that only brackets and words of code are left. Places do not change."""
     literal = r'//[^\n]*|"(?:\\.|[^"\\])*"|\'(?:\\.|[^\'\\])\''
     return re.sub(literal, lambda m: m[0] if m[0] == '"C"' else re.sub(r"[^\n]", " ", m[0]), text)
 
@@ -70,7 +70,7 @@ class Function:
 
     @property
     def path(self):
-        """The name within the crate: behind its type or its modules."""
+        """The name within the crate: after its type or its modules."""
         return "::".join([*([self.holder] if self.holder else self.source.modules), self.name])
 
 
@@ -149,7 +149,7 @@ def imports(clauses):
 
 
 def logic_type(kind):
-    """A type of the source as the logic has it."""
+    """A type of the source as the logic writes it."""
     kind = re.sub(r"^&(?:'\w+ )?(?:mut )?", "", kind)
     if kind.startswith("["):
         inner = logic_type(kind[1:-1].partition(";")[0].strip())
@@ -167,7 +167,7 @@ def quoted(name):
 
 
 def said(clause, answer, exit_of):
-    """What an 'ensures' says of an answer, as tokens: what is lent by its name, at exit as exit_of has it, the answer by the name given."""
+    """What an 'ensures' says about an answer, as tokens: a `&mut` parameter by its name, at exit as given by exit_of, the answer by the given name."""
     parts = re.fullmatch(r"λ (\S+)\. ⌜(.*)⌝", clause, re.S)
     if not parts:
         raise Unread(fault(f"the clause '{clause}' is no ⌜fact⌝ of an answer"))

@@ -1,12 +1,12 @@
 #!/usr/bin/env python3
 """Writes the numbers of documents that a tool can count, and finds those that nothing writes.
 
-counted.py           says whether each is right (exit status 1 if not)
-counted.py --write   first writes them anew
+counted.py           reports whether each is right (exit status 1 if not)
+counted.py --write   first writes them again
 
 `<!-- counted: NAME -->N<!-- -->` in a document is a number that this tool writes; COUNTS has the names. README, PROOFS, CRATES, FORMAT, CONTRIBUTING and
 the notes of docs/landings have no other count of what COUNTED lists: a count that nothing writes becomes wrong unnoticed. A paragraph or row
-that names a commit is a record of that commit, and stays.
+that names a commit is a record of that commit, and is not changed.
 """
 import re
 import sys
@@ -28,7 +28,7 @@ def report(message):
 
 
 def lines_of(path, pattern):
-    """How many lines of a file match."""
+    """The number of lines of a file that match."""
     return len(re.findall(pattern, (ROOT / path).read_text(), re.M))
 
 
@@ -94,7 +94,7 @@ def main(words):
             report(fault(f"{document}: from line {line} on: nothing writes the count \"{found}\""))
     if not marked:
         report(fault("no document has a number that is counted"))
-    return ended(FAULTS, f"counted.py: the {marked} counts of the documents are right, and no other stands there")
+    return ended(FAULTS, f"counted.py: the {marked} counts of the documents are right, and there is no other")
 
 
 if __name__ == "__main__":

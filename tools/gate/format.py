@@ -28,11 +28,11 @@ PART = re.compile(r"(?:\[([\d, ]+): )?(\((\w) \3\)\*|\w)(?:\*|\{(\d+),(\d*)\})?\
 
 
 class NoSample(Exception):
-    """A sample that is no table file."""
+    """A sample that is not a table file."""
 
 
 def rows(text, head):
-    """The rows of the table of the page whose first row begins so."""
+    """The rows of the page's table whose first row begins with this text."""
     lines = text[text.index(f"| {head} |"):].splitlines()
     table = []
     for line in lines[2:]:
@@ -43,7 +43,7 @@ def rows(text, head):
 
 
 def part(word):
-    """A part of the children: the details that it is for (None is all), its class, and the allowed numbers of it, up to 9."""
+    """A part of the children: its details (None is all), its class, and the allowed numbers of children, up to 9."""
     details, one, pair, least, most = PART.fullmatch(word).groups()
     if pair:
         return details, CLASS[pair], {0, 2, 4, 6, 8}

@@ -1,5 +1,5 @@
 #!/usr/bin/env python3
-"""The gate, started by ./test: proves every crate anew, tries every wrong answer, runs every program, test and comparison.
+"""The gate, started by ./test: proves every crate again, tries every wrong answer, runs every program, test and comparison.
 
 gate.py             every step. Prints first what is missing on this machine and which steps are skipped for that
 gate.py NAME...     only these steps, with what is in target/
@@ -100,7 +100,7 @@ STEPS = [
     # rt ci is the verdict. It waits for all of a batch before it starts the next, so batches of four keep two processors busier.
     Step(
         "proofs",
-        "rt ci: every crate is proved anew, every program is run",
+        "rt ci: every crate is proved again, every program is run",
         ("env", "RT_JOBS=" + os.environ.get("RT_JOBS", "4"), "rt", "ci"),
         lane=PROOFS,
         counts=r"(\d+) passed, (\d+) failed",
@@ -150,7 +150,7 @@ STEPS = [
 
 
 def required():
-    """The names that .ci/steps demands."""
+    """The names in .ci/steps."""
     lines = (line.partition("#")[0].strip() for line in REQUIRED.read_text().splitlines())
     return [line for line in lines if line]
 
@@ -186,7 +186,7 @@ class Gate:
             self.say("test: nothing is missing, no step is skipped for it")
 
     def compare_names(self, demanded):
-        """A fault for each name that is in one of the two lists alone, and for each that is there twice."""
+        """A fault for each name that is in only one of the two lists, and for each that is there twice."""
         listed = [step.name for step in self.steps]
         for name in sorted(set(demanded) - set(listed)):
             self.fail(fault(f"the step {name} of .ci/steps is not in tools/gate/gate.py"))
@@ -202,7 +202,7 @@ class Gate:
     # running a command
 
     def start(self, command, output):
-        """Starts a command in a session of its own, so that it can be ended with all that it started."""
+        """Starts a command in its own session, so that it can be ended with all that it started."""
         with self.lock:
             self.starting = True
             try:
@@ -226,7 +226,7 @@ class Gate:
     def on_signal(self, number, _):
         """Ends the run. A command that is just being started is not in `running` yet: `start` then ends the run once it is."""
         self.signalled = number
-        with self.lock:  # waits for a start in the other thread; a start in this one goes on after the handler
+        with self.lock:  # waits for a start in the other thread; a start in this one continues after the handler
             if not self.starting:
                 self.stop()
 
@@ -278,7 +278,7 @@ class Gate:
         if step.counts:
             found = re.fullmatch(step.counts, last)
             more, less = (int(found.group(1)), int(found.group(2))) if found else (0, 0)
-            # without a count, with a count of nothing, or with another status than its count has: one failure at least
+            # without a count, with a count of nothing, or with a status that its count contradicts: at least one failure
             less = less or int(status != 0 or more == 0)
         self.passed += more
         self.failed += less
@@ -319,7 +319,7 @@ class Gate:
                 self.end(step, results[step.name][0], text.rpartition("\n")[2], results[step.name][1])
 
     def run_all(self, demanded, prepare=()):
-        """Every step. `prepare` is a command that is run beside the proofs, whose status is nobody's."""
+        """Every step. `prepare` is a command that is run beside the proofs; its status is ignored."""
         self.say_missing()
         self.compare_names(demanded)
         for step in self.lane(FIRST):
@@ -347,14 +347,14 @@ class Gate:
                 self.run(step)
 
     def last_lines(self):
-        """How many steps were skipped and which, then the counts. Returns the exit status: 0 passed, 1 something failed, 3 all was skipped."""
+        """The number of skipped steps and their names, then the counts. Returns the exit status: 0 passed, 1 something failed, 3 all was skipped."""
         self.say(f"test: {len(self.skipped)} steps skipped{': ' if self.skipped else ''}{', '.join(self.skipped)}")
         self.say(f"{self.passed} passed, {self.failed} failed")
         return 1 if self.failed else 0 if self.passed else 3
 
 
 def end_on_signals(gate):
-    """A signal ends the gate and what it started. A handler of our own also gives each command its default signals back, HUP under nohup too."""
+    """A signal ends the gate and what it started. With our own handler each command also gets its default signals back, HUP under nohup too."""
     ignored = signal.getsignal(signal.SIGHUP) == signal.SIG_IGN
     for number in (signal.SIGHUP, signal.SIGINT, signal.SIGQUIT, signal.SIGTERM):
         harmless = number == signal.SIGHUP and ignored

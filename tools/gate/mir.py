@@ -39,7 +39,7 @@ def functions_of(term, found):
 
 
 def steps(term):
-    """The steps of a function that may ask something of its proof, in order and with their nesting, without operands."""
+    """The steps of a function that may need something from its proof, in order and with their nesting, without operands."""
     flat, left = [], [term]
     while left:
         part = left.pop()

@@ -47,7 +47,7 @@ def said_of(path, pattern):
 
 
 def difference(wanted, found):
-    """In what a list that is not the wanted one differs, in words."""
+    """How a list differs from the wanted one, in words."""
     return f"differs: {sorted(set(wanted) ^ set(found)) or 'in its order'}"
 
 
@@ -69,7 +69,7 @@ def given_by_jobs():
 
 
 def of_numbers():
-    """The faults of the numbers given back."""
+    """The faults of the numbers."""
     head, *rows = [line.split("\t") for line in (ROOT / "docs" / "numbers.tsv").read_text().splitlines()]
     if head != HEAD or any(len(row) != len(HEAD) or not row[2].strip() for row in rows):
         return [fault(f"docs/numbers.tsv: a row is not {', '.join(HEAD)}")], 0

@@ -34,7 +34,7 @@ END = "<!-- end of the generated part -->"
 WIDTH = 118
 
 
-# a text is read once, since most edits are looked for in a source as it stands
+# a text is read once, since most edits are searched in an unchanged source
 source_of = functools.cache(contracts.Source)
 
 
@@ -100,7 +100,7 @@ class Crate:
 
 
 def function_around(crate, file, text, at, old):
-    """The path of the function whose body holds a text at a place, 'const NAME' for a constant; None elsewhere."""
+    """The path of the function whose body has a text at a place, 'const NAME' for a constant; None elsewhere."""
     for function in source_of(crate, file, text).functions:
         if function.body[0] <= at and at + len(old) <= function.body[1]:
             return function.path
@@ -111,7 +111,7 @@ def function_around(crate, file, text, at, old):
 
 
 def definition_around(crate, file, text, at, old):
-    """In a crate without code, the file and the definition that holds a text at a place, once in the file; None elsewhere."""
+    """In a crate without code, the file and the definition that has a text at a place, once in the file; None elsewhere."""
     name = repository.definition_at(crate, file, text, at) if text.count(old) == 1 else None
     return name and f"{file}: {name}"
 
@@ -126,7 +126,7 @@ def constants(code):
 
 
 class Promise:
-    """A public function's contract: what it says of an answer, and the theorem that it has one answer."""
+    """A public function's contract: what it says about an answer, and the theorem that there is only one answer."""
 
     def __init__(self, function):
         self.function, self.source = function, function.source
@@ -135,7 +135,7 @@ class Promise:
         self.ensures = [text for word, text in function.clauses if word == "ensures"]
 
     def of(self, answer, exit_of=None):
-        """What each 'ensures' says of an answer, as tokens."""
+        """What each 'ensures' says about an answer, as tokens."""
         return [contracts.said(text, answer, exit_of or (lambda name: left_by(name, answer))) for text in self.ensures]
 
     def definitions(self):
@@ -168,12 +168,12 @@ class Promise:
         return [pair for field in relation[1] for pair in self.sides([word for part in field for word in given.get(part, [part])])]
 
     def fixes(self, left_is):
-        """Whether an equation of the contract has such a left side, and right of it a definition and no answer."""
+        """Whether an equation of the contract has such a left side, and on the right side a definition and no answer."""
         free = [(left, right) for left, right in self.equations() if not self.answers() & {word.partition(".")[0] for word in right}]
         return any(left_is(left) and self.cites(right) for left, right in free)
 
     def answers(self):
-        """What the contract is to fix: the answer, and each buffer at exit."""
+        """What the contract must determine: the answer, and each buffer at exit."""
         return {"r", *(left_by(name, "r") for name in self.buffers)}
 
     def cites(self, words):
@@ -186,7 +186,7 @@ class Promise:
             w in self.source.ghosts or re.fullmatch(r"r(\.\S+)?|\.\S+|[()]", w) for w in left)
 
     def binders(self):
-        """What the theorem speaks of: the parameters, then the two answers, then each buffer at exit with the one and the other."""
+        """The variables of the theorem: the parameters, then the two answers, then each buffer at exit for each of the two answers."""
         groups = []
         for name, kind in self.function.parameters:
             name, kind = contracts.quoted(name), contracts.logic_type(kind)
@@ -311,7 +311,7 @@ def theorem_faults(crate, promise):
 
 
 def faults(crates, promises):
-    """Every fault, in a line each."""
+    """Every fault, one in a line."""
     for crate in crates:
         of_crate = [promise for promise in promises if promise.source.crate == crate.name]
         for promise in of_crate:
@@ -401,7 +401,7 @@ def cited(crate, promise):
 
 
 def with_table(text, generated):
-    """The document with its generated part; None where it has no place for it."""
+    """The document with its generated part; None if it has no place for it."""
     before, begin, rest = text.partition(BEGIN + "\n")
     _, end, after = rest.partition(END)
     return f"{before}{begin}\n{generated}\n{end}{after}" if begin and end else None
@@ -428,13 +428,13 @@ def document_faults(text, wanted):
 
 
 def read():
-    """The crates as they stand, and the promises of their public functions."""
+    """The present crates, and the promises of their public functions."""
     crates = [Crate(name) for name in repository.crates()]
     return crates, [Promise(function) for crate in crates for function in crate.public]
 
 
 def write(crates, promises):
-    """Writes the statements of theorems that say something else than their contracts, and the generated part of the document."""
+    """Writes the statements of theorems that differ from their contracts, and the generated part of the document."""
     for promise in promises:
         path = repository.CRATES / promise.source.crate / "proofs" / "Promises.antt"
         text = path.read_text() if promise.ensures and path.exists() else ""

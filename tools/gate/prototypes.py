@@ -1,13 +1,13 @@
 #!/usr/bin/env python3
 """Compares the interfaces with the code, argument by argument, and docs/FORMAT.md's fields with the code that reads them.
 
-prototypes.py    says whether they agree (exit status 1 if not)
+prototypes.py    reports whether they agree (exit status 1 if not)
 
 - The functions of include/starlark.h have the parameters of crates/starlark_checks/src/lib.rt: their names and types, in order. A slice is a
   pointer and a length. tools/interfaces.py compares the header with the declarations for Rust.
 - The package's ctypes signatures have the same types, and its methods pass the numbers (node, call, def, zone, ...) in the code's order. So
   do the calls of bindings/rust/src/interface.rs.
-- What the header says of `out` for each number is what bindings/c/refusals has, the record of a C program that runs one case of each.
+- What the header says about `out` for each number is what bindings/c/refusals has, the record of a C program that runs one case of each.
 - Each constant of the header, and each enum that is not made by tools/interfaces.py from a list, is the code's or the definitions'.
 - docs/FORMAT.md: the fields of a record, of a block, of block 0 and of a book's entry are where the code reads them.
 """
@@ -27,7 +27,7 @@ CODE = CRATES / "starlark_checks" / "src" / "lib.rt"
 WRAPPER = ROOT / "bindings" / "rust" / "src" / "interface.rs"
 PACKAGE = ROOT / "python" / "ducatmuffin" / "library.py"
 PAGE = ROOT / "docs" / "FORMAT.md"
-# a type of the code as the parameters of C that it becomes: type and ending of the name
+# the parameters of C for a type of the code: type and ending of the name
 IN_C = {
     "&[u8]": [("const uint8_t *", ""), ("size_t ", "_len")],
     "&[u32]": [("const uint32_t *", ""), ("size_t ", "_len")],
@@ -40,7 +40,7 @@ IN_C = {
 }
 # a type of C as ctypes may have it
 IN_PYTHON = {"size_t ": [ctypes.c_size_t], "uint32_t ": [ctypes.c_uint32], "const uint8_t *": [ctypes.c_char_p, ctypes.c_void_p]}
-# the fields of a record: what the code calls them and what the page does
+# the fields of a record: their names in the code and on the page
 FIELDS = {"kind": "kind", "detail": "detail", "name_len": "name length", "name_start": "name start", "begin": "begin", "stop": "end", "size": "size",
           "file": "file", "source": "name position"}
 WIDTHS = {"byte": 1, "half": 2, "word": 4}
@@ -111,7 +111,7 @@ def scalars(parameters):
 
 
 def in_order(names, order):
-    """The places, in the code's order, of those names that are among it."""
+    """The places, in the code's order, of those names that are in it."""
     return [order.index(name.rstrip("_")) for name in names if name.rstrip("_") in order]
 
 
@@ -168,7 +168,7 @@ def words_said():
 
 
 def recorded_words():
-    """The words of `out` that each number left, by the record: a dot for one that stayed. Numbers of lists and notices, which are no refusals,
+    """The words of `out` after each number, by the record: a dot for one that did not change. Numbers of lists and notices, which are not refusals,
     are left out."""
     record = (ROOT / "bindings" / "c" / "refusals").read_text()
     return {int(n): out.split() for n, out in re.findall(r"^(\d+) .*; out (.*)$", record, re.M)}
@@ -180,7 +180,7 @@ def out_words():
         report(fault("include/starlark.h: what is said of `out` cannot be read, or bindings/c/refusals has no record"))
     for number, words in recorded.items():
         places = {at for at, word in enumerate(words) if word != "."}
-        wanted = {0, 1} if number == 63 else said.get(number, said.get("all others", set()))  # 63: as said at starlark_fstring_read
+        wanted = {0, 1} if number == 63 else said.get(number, said.get("all others", set()))  # 63: see starlark_fstring_read
         if places != wanted:
             report(fault(f"include/starlark.h: {number} writes the words {sorted(places)} of `out`, and the header says {sorted(wanted)}"))
     earlier = re.search(r"out\[3\] STARLARK_NONE; but for (\d+) and (\d+),", interfaces.HEADER.read_text())
@@ -256,7 +256,7 @@ def enums():
 
 
 def page_fields(head):
-    """The fields of the page's table of this head: the bytes, from and to, and the field."""
+    """The fields of the page's table with this head: the first and last byte, and the field."""
     text, rows = PAGE.read_text(), []
     at = text.find(f"| {head} | Field |")
     for line in text[at:].splitlines()[2:] if at >= 0 else []:
@@ -274,7 +274,7 @@ def read_at(path, pattern):
 
 
 def fields():
-    """The tables of fields: each is where the code reads it, and they follow each other without a gap."""
+    """The tables of fields: each field is where the code reads it, and they follow each other without a gap."""
     record = [(*(read_at("forest/src/lib.rt", rf"\npub fn {name}\(t: &\[u8\]\) -> \w+\n[^{{]*{{[^\n]*\n{{\n    FIELD\n}}") or (None, None)), words)
               for name, words in FIELDS.items()]
     content = number("blocks/src/lib.rt", "CONTENT_BYTES")

@@ -9,25 +9,25 @@ import os
 import sys
 
 REACHED = set()  # the calls of `fault` that were reached: (file, line)
-COLLECTED = ("faults", "told", "wrong")  # what scripts call the lists that they put messages in
+COLLECTED = ("faults", "told", "wrong")  # the names that scripts give to their lists of messages
 
 
 class Fault(str):
-    """A message. It is made by `fault` alone, or by `at` of another."""
+    """A message. Only `fault` makes it, or `at` of another one."""
 
     def at(self, place):
         return Fault(f"{place}: {self}")
 
 
 def fault(words):
-    """The message; the place of the call is noted."""
+    """The message. The place of the call is noted."""
     caller = sys._getframe(1)
     REACHED.add((caller.f_code.co_filename, caller.f_lineno))
     return Fault(words)
 
 
 def ended(faults, good, of=""):
-    """Prints each fault in a line, or what is good where there is none. Returns the exit status."""
+    """Prints each fault in a line, or `good` if there is none. Returns the exit status."""
     for one in faults:
         if not isinstance(one, Fault):
             raise TypeError(f"this message is not made by reports.fault, so no trial can see it: {one}")
@@ -52,8 +52,8 @@ def unreached(path, reached=None):
 
 
 def unmeasured(path):
-    """The lines of a script that report in another way than by `fault`: an assertion, an exception or an exit with words of its own, a text
-    that is yielded or put into a list of faults as it is."""
+    """The lines of a script that report in another way than by `fault`: an assertion, an exception or an exit with its own words, a text
+    that is yielded or put into a list of faults directly."""
     for node in ast.walk(ast.parse(path.read_text())):
         parts = []
         if isinstance(node, ast.Assert):
@@ -98,7 +98,7 @@ def name_of(node):
 
 
 def called(node):
-    """The name of what is called: of sys.exit 'exit', of a method the variable and the method."""
+    """The name of what is called: 'exit' for sys.exit, for a method the variable and the method."""
     function = node.func
     if isinstance(function, ast.Attribute):
         owner = name_of(function.value)

@@ -36,7 +36,7 @@ def is_library(name):
 
 
 def has_code(name):
-    """Whether a crate has a function; one without has definitions and theorems alone."""
+    """Whether a crate has a function; one without has only definitions and theorems."""
     return any(re.search(rf"(?m)^ *{HEAD}", path.read_text()) for path in (CRATES / name / "src").rglob("*.rt"))
 
 
@@ -105,7 +105,7 @@ DEFINED = re.compile(r"^ *(?:unfoldable |abbrev )?pub (?:record |data )?(?!mod )
 
 
 def definition_at(name, file, text, at):
-    """In a crate without code, the definition of specs/ in which a place of a file stands, or the statement of proofs/ where the crate has
+    """In a crate without code, the definition of specs/ that has a place of a file, or the statement of proofs/ if the crate has
     no specs/. None elsewhere: in a comment, an import, a proof or another file."""
     part = "specs" if (CRATES / name / "specs").is_dir() else "proofs"
     line = text[text.rfind("\n", 0, at) + 1 : text.find("\n", at)]
@@ -114,5 +114,5 @@ def definition_at(name, file, text, at):
         return None
     own = heads[-1][1]
     if part == "proofs" and re.search(rf"^{re.escape(own)} ", text[heads[-1].start() : at + len(own) + 1], re.M):
-        return None  # behind the statement, in its proof
+        return None  # after the statement, in its proof
     return own

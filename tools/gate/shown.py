@@ -38,7 +38,7 @@ PARTS = ("README.md", "./ducat bind --strict --expect take2.trains=trains sample
         13:11 trains takes tracks, not trains
 """))
 
-# what the bindings of two joined scripts are, from their table and from the scripts themselves
+# the bindings of two joined scripts, from their table and from the scripts themselves
 RECORDED = [("samples/joined.bound", "./ducat bind --script 1=samples/joined.1.star --script 2=samples/joined.2.star samples/joined.table"),
             ("samples/joined.bound", "./ducat bind --join samples/joined.1.star samples/joined.2.star"),
             ("samples/three.figures", "./ducat figures samples/three.tables"),

@@ -94,7 +94,7 @@ def page():
 
 # theorems of other kinds, each with its own page or step: of one answer (docs/PROMISES.md, tools/gate/promises.py)
 ONE_ANSWER = re.compile(r".*-one$|.*-injective$")
-# crates whose theorems stand for themselves: closed instances of what theorems suppose
+# crates whose theorems need no statement: closed instances of what theorems assume
 INSTANCES = {"Example.antt"}
 
 

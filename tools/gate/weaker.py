@@ -17,7 +17,7 @@ so that only what changed is checked:
 2. a field `never : ⊥` in each record of a hypothesis, one check for each (--records N: the first N of each module). The module must
    be refused for its own reason. If the crate makes such a record in the proof of the theorem, the crate refuses the field, the theorem is
    missing, and the module shows nothing: this is counted separately.
-The last line is 'N of M faults refused, A by the statements and B by the crate of the record alone'; status 0 where N is M and every twin is
+The last line is 'N of M faults refused, A by the statements and B by the crate of the record alone'; status 0 if N is M and every twin is
 accepted.
 """
 import argparse
@@ -42,7 +42,7 @@ NOT_ADMITTED = "was not admitted"
 # ---- types as text
 
 def split(text, mark):
-    """The parts of a text between marks that stand in no parentheses."""
+    """The parts of a text between marks that are not in parentheses."""
     parts, depth, last = [], 0, 0
     for i, c in enumerate(text):
         depth += (c in "({") - (c in ")}")
@@ -73,7 +73,7 @@ def closes(text):
 
 
 def groups(text):
-    """The words and groups in parentheses that a text has side by side."""
+    """The adjacent words and groups in parentheses of a text."""
     found, i = [], 0
     while i < len(text):
         if text[i].isspace():
@@ -122,7 +122,7 @@ def record_in(found, path, foreign=None):
 
 
 def from_outside(text, crate, path):
-    """The imports of a file of a crate as another crate has to write them, with the file's own public names."""
+    """The imports of a file of a crate as another crate must write them, with the file's own public names."""
     uses = [re.sub(rf"Rattle·{crate}·(specs|proofs)\.\1\.", rf"Rattle.{crate}.\1.", use) for use in re.findall(r"^use .*", text, re.M)]
     own = re.findall(r"^(?:unfoldable )?(?:abbrev )?pub (?:record |data )?(?!mod )([^\s:]+) ", text, re.M)
     part, *rest = path.relative_to(CRATES / crate).with_suffix("").parts
@@ -164,7 +164,7 @@ def put(text, names, args):
 
 
 def opened(crate, type_):
-    """A theorem's type whose whole is an abbreviation, as the claims of a crate are, with its arrows in sight."""
+    """A theorem's type with its arrows. If the whole type is an abbreviation, as the claims of a crate are, it is expanded."""
     items = arrows(type_)
     if items[-1].startswith("let "):  # a name for a term
         named, rest = split(items[-1], " in ")[0], " in ".join(split(items[-1], " in ")[1:])
@@ -191,7 +191,7 @@ class Theorem:
 
 
 def theorems(text):
-    """The public declarations of a file that have a signature, by name; 'end' is the line behind the last of their text."""
+    """The public declarations of a file that have a signature, by name; 'end' is the line after their text."""
     lines, found, modules, i = text.split("\n"), {}, [], 0
     while i < len(lines):
         line = lines[i]
@@ -218,12 +218,12 @@ def theorems(text):
     return found
 
 
-# what holds of every entry of a list, with the law that maps it
+# what holds for every entry of a list, with the law that maps it
 MAPS = {"All": "all-map", "Each": "each-map"}
 
 
 class Weak:
-    """One weakened conclusion: its type, the term that makes it of the right one (at x), and the records that it needs."""
+    """One weakened conclusion: its type, the term that makes it from the right one (at x), and the records that it needs."""
 
     def __init__(self, type_, term, what, records=()):
         self.type, self.term, self.what, self.records = type_, term, what, list(records)
@@ -285,7 +285,7 @@ def weakened(crate, type_, x, label):
         for k, (field, own) in enumerate(r.fields):
             later = " ".join(o for _, o in r.fields[k + 1 :])
             if not is_claim(crate, own) or re.search(rf"(?<![^\s(]){re.escape(field)}(?![^\s)])", later):
-                continue  # a thing, or a claim that a later field speaks of
+                continue  # a value, or a claim that a later field uses
             inner = bare(own).split(" ")[0]
             ways = weakened(crate, own, f"{x} .{field}", label) if inner in crate.records and not r.foreign else [Weak("Unit {0}", "tt", f"{head}.{field}")]
             for w in ways:
@@ -299,7 +299,7 @@ def weakened(crate, type_, x, label):
 
 
 def is_claim(crate, type_):
-    """Whether a field is a claim, and not a thing that is there, as a number or a node."""
+    """Whether a field is a claim, and not a value such as a number or a node."""
     t = bare(type_)
     return bool(re.search(r"[≡≤<→×⊎]", t)) or groups(t)[0] in crate.records or len(groups(t)) > 1 and groups(t)[0] not in ("List", "Maybe")
 
@@ -315,7 +315,7 @@ def clause(sig):
     return names, items
 
 
-# ---- a copy of a crate, and what the prover says of it
+# ---- a copy of a crate, and what the prover says about it
 
 def copy_of(name, label):
     folder = WORK / name / label
@@ -327,7 +327,7 @@ def copy_of(name, label):
 
 
 def check(name, folder):
-    """The errors that rattle tells of a crate in a folder: (file, declaration, text)."""
+    """The errors that rattle reports for a crate in a folder: (file, declaration, text)."""
     words = [str(KIT.own / "bin" / "rattle"), "check", "--crate-name", name, str(folder / "src" / "lib.rt")]
     for crate in ["std", *repository.crates()[name]]:
         words += ["--extern", f"{crate}={(Module.libraries if (CRATES / crate).is_dir() else KIT.own) / 'rlib' / crate}.rlib"]
@@ -384,7 +384,7 @@ class Module:
             stands |= set(below)
             todo += below
         for crate in sorted(set(re.findall(r"^use Rattle·(\w+)", self.text, re.M)) - stands):
-            yield fault(f"it imports from {crate}, which {self.crate} does not stand on")
+            yield fault(f"it imports from {crate}, which {self.crate} does not depend on")
         for name in self.uncited:
             yield fault(f"{name} cites no theorem")
 
@@ -407,14 +407,14 @@ class Module:
         return next(iter(re.findall(r"(?<![^\s(])(theorem[^\s.()]*)\.([^\s()]+)", self.body(name))), None)
 
     def head(self):
-        """The imports and the helpers: all that is no statement."""
+        """The imports and the helpers: everything but statements."""
         text = self.inside
         for name in self.statements:
             text = text.replace(self.body(name), "")
         return text
 
     def conclusions(self):
-        """All weakened conclusions in one check. Gives (refused, tried, twins not accepted, what stood)."""
+        """All weakened conclusions in one check. Returns (refused, tried, twins not accepted, what was not refused)."""
         folder = copy_of(self.crate, f"{self.path.stem}-conclusions")
         crate = Crate(self.crate, folder)
         right = {alias: self.right(folder, alias) for alias in self.files}
@@ -496,7 +496,7 @@ class Module:
         return len(faults) - len(stood), len(faults), len(twins) + len(broken)
 
     def hypotheses(self):
-        """The records of the crate that stand in a hypothesis of a cited theorem, or in such a record's fields."""
+        """The records of the crate in a hypothesis of a cited theorem, or in such a record's fields."""
         crate = Crate(self.crate, CRATES / self.crate)
         right = {alias: self.right(CRATES / self.crate, alias) for alias in self.files}
         found, todo = [], []
@@ -518,7 +518,7 @@ class Module:
         return found
 
     def record(self, r):
-        """A field `never : ⊥` in a record. Gives whether the statements refuse it, and whether the crate itself does."""
+        """A field `never : ⊥` in a record. Returns whether the statements refuse it, and whether the crate itself does."""
         folder = copy_of(self.crate, f"{self.path.stem}-{r.name}")
         path = folder / r.path.relative_to(CRATES / self.crate)
         path.write_text(re.sub(rf"(^pub record {re.escape(r.name)}(?: [({{][^)}}]*[)}}])+ : Type 0 where\n(?:  .*\n)+)", r"\1  pub never : ⊥\n", path.read_text(), count=1, flags=re.M))

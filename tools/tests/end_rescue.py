@@ -2,7 +2,7 @@
 """Ends the rescuing program by KILL, many times, and checks OUT.
 
 end_rescue.py ROUNDS IN RESCUED COMMAND...    COMMAND is what runs the program, up to its three arguments; IN is a damaged file, RESCUED what
-                                              is to be rescued of it
+                                              must be rescued from it
 
 Half of the rounds are ended after a random part of the time that a run takes, the others as soon as the new file is
 beside OUT, or a little later: while the program writes, flushes and renames. In each second round IN is OUT. While a round runs and after

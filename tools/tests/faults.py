@@ -3,14 +3,14 @@
 
 faults.py [OPTION...] [NAME...]   NAME is a fault of faults.list; without a name all of them
     --log FILE   where results are kept (default: oracle/target/step-faults.jsonl)
-    --again      runs also what the log has a result of
-    --check      only says whether each edit can be planted and its step is one of the gate (exit status 1 if not); nothing is run
+    --again      also runs faults that have a result in the log
+    --check      only reports whether each edit can be planted and its step is one of the gate (exit status 1 if not); nothing is run
     --write      writes the table of docs/measured/FAULTS.md from the log; nothing is run
     --help       prints this
 
 faults.list has a paragraph for each fault: its name and words, `step:` with the step that must fail, `file:`, `old:` and `new:` as in an edit
-(tools/gate/repository.py), and `run:` with a command that is run in the copy afterwards, such as one that makes files anew. `step: python MODULE` is
-the step python with the tests of one module alone. Each fault is planted in a copy of the repository, where its step must fail; without a fault the
+(tools/gate/repository.py), and `run:` with a command that is run in the copy afterwards, such as one that makes files again. `step: python MODULE` is
+the step python with only the tests of one module. Each fault is planted in a copy of the repository, where its step must fail; without a fault the
 step must pass there. An edit that does not apply counts as not run. The copy has the library of this checkout, proved or not: no step here
 proves anything. A result is kept under the checksum of the fault and of the repository, so that a run may be ended and continued.
 
@@ -68,7 +68,7 @@ class Planted:
                 self.words.append(line)
 
     def applied(self, root):
-        """The files that it makes of those of a folder, and why it does not apply where it does not."""
+        """The changed files of a folder, and the reason if the fault does not apply."""
         texts = {}
         for file, old, new in self.pairs:
             path = root / file
@@ -114,7 +114,7 @@ def tracked():
 
 
 def checksum():
-    """Of all files but what was measured and noted."""
+    """Of all files except records of measurements."""
     whole = hashlib.sha256()
     for name in tracked():
         if not name.startswith(("docs/measured/", "docs/landings/")):
@@ -136,7 +136,7 @@ def copied(folder):
 
 
 class Copy:
-    """The copy, in which each fault is planted and taken out again."""
+    """The copy, in which each fault is planted and removed again."""
 
     def __init__(self, folder):
         self.root, self.good = folder, {}
@@ -161,13 +161,13 @@ class Copy:
         return said.returncode, (telling or lines or [""])[0][:160]
 
     def passes(self, step):
-        """Whether the step passes where nothing is planted."""
+        """Whether the step passes if nothing is planted."""
         if step not in self.good:
             self.good[step] = self.run(step)
         return self.good[step][0] == 0
 
     def plant(self, one):
-        """Whether its step finds a fault, and the words for it; None where it was not run."""
+        """Whether its step finds a fault, and the words for it; None if it was not run."""
         texts, why = one.applied(self.root)
         if why:
             return None, why
@@ -221,7 +221,7 @@ def results(log):
 
 
 def write(log):
-    """Writes the table of FAULTS.md: the result of each fault for the repository as it is."""
+    """Writes the table of FAULTS.md: the result of each fault for the present repository."""
     kept, whole, made, count = results(log), checksum(), [], {True: 0, False: 0, None: 0}
     for one in listed():
         result = kept.get(key_of(one, whole), {})

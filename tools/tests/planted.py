@@ -1,6 +1,6 @@
 """The faults that tools/tests/try_checks.py plants, check by check: for each message of a script at least one, and what a script must accept.
 
-A plant is a function of a Room, the copy. It raises Unplanted where the files have no place for it.
+A plant is a function of a Room, the copy. It raises Unplanted if the files have no place for it.
 """
 import re
 
@@ -10,7 +10,7 @@ from trial import Check, Planted, Unplanted
 # ---- ways to plant
 
 def changed(file, old, new):
-    """A pattern in a file, replaced where it is found first."""
+    """The first match of a pattern in a file, replaced."""
     def plant(room):
         text = room.read(file)
         after, times = re.subn(old, new, text, count=1, flags=re.M | re.S)
@@ -66,7 +66,7 @@ def exchanged(file, pattern):
 
 
 def nothing(room):
-    """What is there already is at fault by the script's words."""
+    """Nothing is planted: the files are already at fault with the script's arguments."""
 
 
 # ---- numbers.py, interfaces.py, format.py, kinds.py
@@ -115,7 +115,7 @@ def published(room):
 
 
 def other_line(room):
-    """A line more at the top of a published file."""
+    """One more line at the top of a published file."""
     path = next((room.root.parent / "shared" / "docs" / "src" / "src" / "syntax").iterdir())
     room.write(str(path), "\n" + path.read_text())
 
@@ -185,13 +185,13 @@ IN_KINDS = [
     Planted("a list of cases that is gone", removed("crates/cases/kinds.txt"), r"kinds\.txt is NOT what the sentences give"),
     Planted("a sentence of another number", changed(SENTENCES, "kind 50: 0 to 3", "kind 50: 0 to 2"), "neither the scope nor a request has these words: Names stand on"),
     Planted("a rule in other words", changed(SENTENCES, r"4 If \(condition, statement\)", "4 If (a condition, statement)"), "unknown words in a sentence: a condition"),
-    Planted("a kind without children that has some", changed(SENTENCES, r"28 String;", "28 String (2);"), "words are not those of the rules before them"),
+    Planted("a kind without children that has some", changed(SENTENCES, r"28 String;", "28 String (2);"), "the list of kinds without children is not that of the rules before it"),
     Planted("a kind left out", changed(SENTENCES, r"6 Break; ", ""), "the sentences do not give the kinds of the package"),
 ]
 
 
 def documents(room):
-    """Documents 01 and 02 of the trial: the sentences that crates/cases cites."""
+    """The two documents of the trial: the sentences that crates/cases cites."""
     for name in ("01-scope.md", "02-change-requests.md"):
         path = room.root.parent / "shared" / "docs" / name
         path.parent.mkdir(parents=True, exist_ok=True)
@@ -208,9 +208,9 @@ IN_CITED = [
     Planted("a path", added(PROOFS, "`crates/fields/specs/Nowhere.antt`\n"), r"there is no crates/fields/specs/Nowhere\.antt"),
     Planted("a name that a file lacks", added(PROOFS, "`crates/fields/specs/Field.antt`: `field`, `meadow`\n"), r"specs/Field\.antt does not define meadow"),
     Planted("a name that a file defines", added(PROOFS, "`fields/specs/Field.antt`: `field`\n"), None),
-    Planted("a name that stands in a comment of the logic", all_of(
+    Planted("a name that is only in a comment of the logic", all_of(
         added("crates/fields/specs/Field.antt", "-- pub meadow : ℕ\n"), added(PROOFS, "`crates/fields/specs/Field.antt`: `meadow`\n")), "does not define meadow"),
-    Planted("a name that stands in a comment of the code", all_of(
+    Planted("a name that is only in a comment of the code", all_of(
         added("crates/fields/src/lib.rt", "// fn meadow() {}\n"), added(PROOFS, "`crates/fields/src/lib.rt`: `meadow`\n")), "does not define meadow"),
     Planted("a name that a file imports and does not define", added(PROOFS, "`crates/demand3/specs/Cut.antt`: `Cut` and `Distinct`\n"), "does not define Distinct"),
     Planted("a name of the file beside", added(PROOFS, "`crates/demand3/specs/Cut.antt`: `Cut`; `Numbers.antt`: `x`\n"), r"there is no Numbers\.antt"),
@@ -253,7 +253,7 @@ IN_IMPORTS = [
     Planted("a module", changed(SPECS, r"\A", "use lib.Made as meadow\n"), "does not use meadow"),
     Planted("a name of the code", changed(CODE, r"^ghost use", "use crate::meadow;\nghost use"), r"src/lib\.rt imports and does not use meadow"),
     Planted("a name of a contract", changed(CODE, r"^(ghost use \S+\.\{[^}]*)\}", r"\1, meadow}"), "does not use meadow"),
-    Planted("a name that stands in a comment alone", all_of(changed(SPECS, r"\A", "use lib.Made.{meadow}\n"), added(SPECS, "-- meadow\n")), "does not use meadow"),
+    Planted("a name that is only in a comment", all_of(changed(SPECS, r"\A", "use lib.Made.{meadow}\n"), added(SPECS, "-- meadow\n")), "does not use meadow"),
     Planted("a name that is a part of another", all_of(changed(SPECS, r"\A", "use lib.Made.{meadow}\n"), added(SPECS, "pub meadows : ℕ\n")), "does not use meadow"),
     Planted("an operator", changed(SPECS, r"\A", "use lib.Made.{_⊗_}\n"), "does not use _⊗_"),
     Planted("an operator in front", changed(SPECS, r"\A", "use lib.Made.{¬_}\n"), "does not use ¬_"),
@@ -330,7 +330,7 @@ cat "$(dirname "$0")/printed/$(printf %s "$*" | sed 's#\( \)/[^ ]*/#\1#' | tr ' 
 
 
 def command(room):
-    """A command that prints what the documents show, from files of its own."""
+    """A command that prints what the documents show, from its own files."""
     room.write("ducat", DUCAT, 0o755)
     with room.inside():
         shown = room.load("shown.py")
@@ -376,7 +376,7 @@ def edits(room, crate):
 
 
 def deleted(crate, keep):
-    """The wrong answers of a crate but for some."""
+    """The wrong answers of a crate without some."""
     def plant(room):
         files = edits(room, crate)[keep:]
         if not files:
@@ -387,7 +387,7 @@ def deleted(crate, keep):
 
 
 def edited(crate, file, old, new):
-    """A wrong answer more, whose text must stand in the crate's file."""
+    """One more wrong answer, whose text must be in the crate's file."""
     def plant(room):
         if old not in room.read(f"crates/{crate}/{file}"):
             raise Unplanted(f"{crate}/{file} has no such text")
@@ -401,7 +401,7 @@ def without_ensures(file, function):
 
 
 def moved_edits(crate, function, file, old, new):
-    """Every wrong answer in a function's body stands in a function that it calls."""
+    """Every wrong answer in a function's body is moved to a function that it calls."""
     def plant(room):
         with room.inside():
             of_crate = room.load("promises.py").Crate(crate)

@@ -1,6 +1,6 @@
 """The faults that tools/tests/try_checks.py plants for the two scripts that run the prover: wrong_answers.py and weaker.py.
 
-The prover is made up here, so that each of its answers can be planted and none takes time: it refuses what differs from the crate as it is. The
+The prover is made up here, so that each of its answers can be planted and none takes time: it refuses what differs from the unchanged crate. The
 steps `wrong`, `try-wrong` and `weaker` run the two scripts over the prover itself. A file `prover` in the copy says what the made-up one does wrong.
 """
 import pathlib
@@ -27,7 +27,7 @@ class Prover:
 
     @property
     def fails(self):
-        """What is planted: how the prover fails."""
+        """What is planted: the way in which the prover fails."""
         file = self.root / "prover"
         return file.read_text() if file.exists() else ""
 
@@ -52,7 +52,7 @@ class Prover:
         return answer("".join(f'(fn-def "{name}::{f}" (body {"(call) " * body.count("(")} "{re.sub(chr(34) + "|" + chr(92) + "s", "", body)}"))\n' for f, body in listed))
 
     def of_crate(self, name, crate):
-        """What the prover says of a crate with wrong answers: of each function or definition that differs, where it is refused."""
+        """What the prover says about a crate with wrong answers: for each function or definition that differs, where it is refused."""
         if self.fails == "proves all":
             return ""
         right = dict(functions((self.root / "crates" / name / "src" / "lib.rt").read_text()))
@@ -70,7 +70,7 @@ class Prover:
         return "" if self.fails == "says no place" else f"{crate}/{file}:1:1: error: `{name}`: {words}\n"
 
     def of_theorems(self, crate):
-        """What the prover says of a crate with weaker theorems: the statements that cite them are refused, or the module over a record that has more."""
+        """What the prover says about a crate with weaker theorems: the statements that cite them are refused, or the module over a record with one more field."""
         names = re.findall(r"^pub (\S+) :", (crate / "proofs" / "Weaker.antt").read_text(), re.M)
         planted = [name for name in names if re.search(r"-\d+$", name)] if crate.name.endswith("-conclusions") else names[:1]
         if self.fails == "proves all":
@@ -85,7 +85,7 @@ def answer(text, status=0):
 
 
 def made_up(room):
-    """Puts the made-up prover in the place of the kit, and libraries that are empty."""
+    """Puts the made-up prover in the place of the kit, with empty libraries."""
     for name in ("fields", "examples", "demand3"):
         (room.root / "target" / "rlib" / f"{name}.rlib" / "toolchain" / "checked").mkdir(parents=True, exist_ok=True)
     kit = types.SimpleNamespace(home=room.root, own=room.root)
@@ -107,7 +107,7 @@ def fails(words):
 
 
 def edit(words, crate="fields"):
-    """One wrong answer, beside those that are there."""
+    """One more wrong answer."""
     return created(f"crates/{crate}/wrong/planted.edit", words)
 
 
@@ -153,7 +153,7 @@ IN_WEAKER = [
     Planted("planted theorems that are not proved", fails("refuses the theorems"), "the planted theorem itself is not proved: proofs/Demand3.antt law"),
     Planted("no verdict", fails("no verdict"), "no verdict on .*: the prover fell over"),
     Planted("theorems of two crates", changed(MODULE, "^use ", "use Rattle.fields.proofs.Fields as theorem-fields\nuse "), "Demand3 cites theorems of 2 crates"),
-    Planted("an import from a crate above", changed(MODULE, "^use ", "use Rattle.bind.specs.Binding.{reaches}\nuse "), "Demand3: it imports from bind, which demand3 does not stand on"),
+    Planted("an import from a crate above", changed(MODULE, "^use ", "use Rattle.bind.specs.Binding.{reaches}\nuse "), "Demand3: it imports from bind, which demand3 does not depend on"),
     Planted("a statement that cites no theorem", added(MODULE, "pub planted : Unit {0}\nplanted = tt\n"), "Demand3: planted cites no theorem"),
     Planted("a module that is not there", removed(MODULE), "there is no module Demand3 of crates/statements"),
     Planted("no module at all", removed(MODULE), "no fault was planted"),

@@ -1,4 +1,4 @@
-"""What a trial of a check script is made of: planted faults, and the copy of the repository in which they are planted."""
+"""The parts of a trial of a check script: planted faults, and the copy of the repository in which they are planted."""
 import contextlib
 import importlib.machinery
 import importlib.util
@@ -14,7 +14,7 @@ from repository import ROOT
 
 
 class Unplanted(Exception):
-    """A fault that has no place in the files as they are."""
+    """A fault that has no place in the present files."""
 
 
 class Planted(NamedTuple):
@@ -43,7 +43,7 @@ def script(root, name):
 
 
 class Room:
-    """A copy of files of the repository. What is written here by a planted fault is undone by `restore`."""
+    """A copy of files of the repository. `restore` undoes what a planted fault has written."""
 
     def __init__(self, folder, reads):
         self.root = folder / "repository"
@@ -97,7 +97,7 @@ class Room:
 
     @contextlib.contextmanager
     def inside(self):
-        """The process as the script has it: its folder, its modules, its path."""
+        """The process as the script expects it: its folder, its modules, its path."""
         names = {"faults-port", *(path.stem for path in (self.root / "tools").rglob("*.py"))}
         here, path, writes = os.getcwd(), sys.path[:], sys.dont_write_bytecode
         others = {name: sys.modules.pop(name) for name in list(sys.modules) if name.partition(".")[0] in {*names, "ducatmuffin"}}
@@ -117,7 +117,7 @@ class Room:
             sys.modules.update(others)
 
     def load(self, script):
-        """The module of a script, as the copy has it."""
+        """The module of a script of the copy."""
         path = self.tool(script)
         if path.stem not in sys.modules:
             loader = importlib.machinery.SourceFileLoader(path.stem, str(path))

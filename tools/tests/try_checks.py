@@ -1,16 +1,16 @@
 #!/usr/bin/env python3
-"""Tries every check script of the gate: plants faults in a copy of what it reads, one at a time, and demands that each is reported.
+"""Tries every check script of the gate: plants faults in a copy of what it reads, one at a time, and requires that each is reported.
 
 try_checks.py              every script
 try_checks.py SCRIPT...    these scripts by themselves: promises.py
 
 planted.py and planted_prover.py list the planted faults: what is planted, and a pattern of the message that must come, or None
-where the script must accept what is planted. A planted fault counts where the script ends with status 1 or 2 and prints the message. One that has
-no place in the files as they are fails the trial as NOT PLANTED. The scripts are run in this process, and so is the prover's part of two of them,
+where the script must accept what is planted. A planted fault counts if the script ends with status 1 or 2 and prints the message. One that has
+no place in the present files fails the trial as NOT PLANTED. The scripts are run in this process, and so is the prover's part of two of them,
 which is made up.
 
 The trial measures itself. Every message is made by reports.fault, and each call of it that the syntax of a script has must be reached by a planted
-fault; nor may a script report in another way. Every Python script of tools/ and oracle/ that a step of the gate runs must be here, but for those
+fault; nor may a script report in another way. Every Python script of tools/ and oracle/ that a step of the gate runs must be here, except for those
 of TRIALS. The last line is 'N planted faults reported, M messages, K faults'; status 0 where K is 0.
 """
 import pathlib
@@ -30,7 +30,7 @@ from trial import Room, Unplanted, script  # noqa: E402
 TRIALS = {"try_checks.py", "try_gate.py", "try_programs.py", "books", "namesakes"}
 
 
-# what a script reports by itself of work that is no check: a planted fault that cannot be compiled, which a run of faults-port shows as not run
+# what a script reports about work that is not a check: a planted fault that cannot be compiled, which a run of faults-port shows as not run
 EXCEPTED = {"faults-port": "raise build.BuildError("}
 
 
@@ -87,7 +87,7 @@ def without_trial(scripts):
     return [f"{name}: a step of the gate runs it, and no fault is planted for it" for name in sorted(run - set(scripts) - TRIALS)]
 
 
-# a script with a message that no planted fault reaches and two that are not made by `fault`, and what the trial must report of it
+# a script with a message that no planted fault reaches and two that are not made by `fault`, and what the trial must report about it
 MADE_UP = '''from reports import ended, fault
 from repository import ROOT
 
@@ -112,7 +112,7 @@ MEASURED = ["made_up.py:10: no planted fault reaches this message", "made_up.py:
 
 
 def of_itself(folder):
-    """Tries the trial: what it does not report of a made-up script."""
+    """Tries the trial: what it does not report about a made-up script."""
     room = Room(folder, ())
     room.write("made-up", "nothing")
     room.write("tools/gate/made_up.py", MADE_UP)

@@ -1,5 +1,5 @@
 #!/usr/bin/env python3
-"""Tries the gate itself: plants faults in made-up lists of steps and demands that each is reported, and that nothing else is.
+"""Tries the gate itself: plants faults in made-up lists of steps and requires that each is reported, and that nothing else is.
 
 The trials run gate.py's own code on commands that take no time. Status 1, with a line for each fault, where one is not as it must be, or where
 no trial reaches a message of gate.py.
@@ -136,7 +136,7 @@ run.run_all(["slow"])
 
 
 def signals():
-    """TERM ends the gate and what it started. A step has its default signals, though the gate was started deaf to HUP."""
+    """TERM ends the gate and what it started. A step has its default signals, though the gate was started with HUP ignored."""
     with tempfile.TemporaryDirectory() as room:
         note = pathlib.Path(room) / "pid"
         TRIED.append("TERM")
@@ -156,7 +156,7 @@ def signals():
 
 
 def waited(test):
-    """Waits until a test holds, ten seconds at most."""
+    """Waits until a test holds, at most ten seconds."""
     end = time.monotonic() + 10
     while not test() and time.monotonic() < end:
         time.sleep(0.05)

@@ -1,5 +1,5 @@
 #!/usr/bin/env python3
-"""Tries what no promise says of the programs tablecheck, tablerescue and tablefigures: how much they read, what they print, and how OUT is replaced.
+"""Tries what no promise says about the programs tablecheck, tablerescue and tablefigures: how much they read, what they print, and how OUT is replaced.
 
 They must be built (rt check tablecheck tablerescue tablefigures). Each is run as rt runs it, on Arm under the kit's emulator. For the comparison of the
 command with them there is a step of its own. Status 1, with a line for each fault, where something is not as it must be.
@@ -23,7 +23,7 @@ from tables import tables  # noqa: E402
 SAMPLES = ROOT / "samples"
 ROUNDS = 100  # how often the rescue is ended by KILL
 HUGE = 3 * 2 ** 30 + 5  # bytes of a sparse file
-MEMORY = 1000 * 2 ** 20  # bytes that the program may have for it
+MEMORY = 1000 * 2 ** 20  # bytes of memory that the program may use for it
 # tables with wrong source file numbers: what the rescue prints, and what is kept
 NUMBERED = [
     ("a child with a wrong source file number", "(Statements (Break) (Break file=9) (Break file=1000) (Break))",
@@ -93,7 +93,7 @@ def check(room):
 
 
 def rescued(room, words, source, lines, out, before=b"old", **more):
-    """A rescue: what it prints, and OUT afterwards. Nothing is left beside OUT. Where IN is OUT, `before` is what it holds."""
+    """A rescue: what it prints, and OUT afterwards. Nothing is left beside OUT. If IN is OUT, `before` is its content."""
     new, place = room / "new", room / "out"
     place.write_bytes(before)
     done = run([*command("tablerescue"), str(source), str(new), str(place)], **more)

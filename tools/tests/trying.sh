@@ -1,9 +1,9 @@
 # shellcheck shell=sh disable=SC2034,SC2154
-# What the scripts share that try a tool at the root: a folder, faults, and runs whose output is compared.
+# Shared by the scripts that try a tool at the root: a folder, faults, and runs whose output is compared.
 #
 # Such a script sets try (its own name) and tool, and reads this first: . "$(dirname "$0")/trying.sh". Then it is at the root, and has
 #   room                              a folder for what is made, which is gone when the script ends
-#   faults, tried                     how many faults were told, how many runs were held to something
+#   faults, tried                     the number of faults reported, the number of runs compared with something
 #   fault WORDS                       reports a fault
 #   expect STATUS OUT WORDS ARG...    runs the tool on ARG...: its exit status, what it prints (OUT is a file), what it says on standard
 #                                     error (WORDS is a pattern). Standard input is the file $input, if that is set
