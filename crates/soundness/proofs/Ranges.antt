@@ -151,7 +151,7 @@ module _ (c x : ℕ) (bs : List ℕ) {w : ℕ} (w-is : w ≡ rangeOf c + 0x1_000
   unfolding childIn rangeOf
   child-unranged e = lowest ∙ rw (e, no-range (nodeOf 0 bs .kind), and-false (eqb (sizeOf bs) (spanOf bs / 24))) refl
 
--- a place in a list of three, whatever stands for the places past it
+-- a place in a list of three, whatever the default is
 three : (a b c d j : ℕ) → j < 3 → getD (a ∷ b ∷ c ∷ []) j d ≡ getD (a ∷ b ∷ c ∷ []) j 0
 three a b c d zero h = refl
 three a b c d (suc zero) h = refl

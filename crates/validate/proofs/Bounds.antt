@@ -1,7 +1,7 @@
 -- A module has no more errors than twice its nodes (`module-few`), so that no count overflows and a list of 4,200
 -- errors holds all. Each node pays for what is reported at it: two errors for a statement or an expression, one for a
 -- parameter that is a mark. The induction is on the forest, over statements and expressions together (`forest-few`),
--- because a parameter pays for its mark whoever owns the list. Below it the same bounds stand in bytes, as the code's
+-- because a parameter pays for its mark whoever owns the list. Below it the same bounds are in bytes, as the code's
 -- sums need them (`stmts-few` to `list-few`). Assumes nothing.
 use mathlib.Core.Path.{_≡_, refl}
 use mathlib.Core.Bool.{Bool, true, false}
@@ -106,7 +106,7 @@ arm-few d names s r ks visit n h Load = simp length-append (omega (
 arm-few d names s r ks visit n h (Told m) = omega arith
 arm-few d names s r ks visit n h (Below p) = omega (arith, h p)
 
--- an expression by itself: two, and its parameters; a record of another class is told nothing
+-- an expression by itself: two, and its parameters; a record of another class has no errors
 abbrev ownMost : ℕ → ℕ → ℕ
 ownMost k n = if' (eqb (classOf k) expression) (λ _. n) (λ _. 0)
 
@@ -150,7 +150,7 @@ unfolding paramsIn
 nothing names = omega arith
 
 module _ (d : Dialect) (names : List ℕ) where
-  -- a tree is told no more than twice its nodes, if that holds of its children: by its class
+  -- a tree has at most twice as many errors as nodes, if that holds of its children: by its class
   tree-step : (r : Node) (ks : Forest)
       → ((s : Standing) → length (paramsIn names ks) + length («visit_stmt» d names s ks)
       + length («visit_expr» d names ks) ≤ 2 * count ks) → (s : Standing)

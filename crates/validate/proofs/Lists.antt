@@ -108,7 +108,7 @@ module _ {l : Listing} (m : Mark) (i : ℕ) (t : List ℕ) where
         stores = turns-end (w .turns) (rw (list-end [] place left (sym b-is ∙ none)) refl);
       }
 
--- one parameter is told little
+-- one parameter has few errors
 pub mark-few : {l : Listing} (m : Mark) (i : ℕ) (t : List ℕ) {xs ys : List ℕ} {n : ℕ}
     → Stores l (markError m (nodeOf i t) (kindHere t)) xs n ys → n ≤ 1
 mark-few m i t s = unless-one (not (isMark m (kindHere t))) (errAt (notPermitted m) (nodeOf i t)) s
@@ -169,7 +169,7 @@ module _ {l : Listing} (d : Dialect) (names t : List ℕ) (i : ℕ) where
       (stores-both _ _ (stores-both _ _ (told-anywhere Star list-is stars) k-is
       (told-anywhere SlashMark list-is slashes)) m-is last)
 
-  -- what a parameter list's node is told
+  -- the errors of a parameter list's node
   pub with-all : (p : Bool) (n : ℕ) {xs ys zs : List ℕ} {m r at : ℕ} → Stores l (unless p n (nodeOf i t)) xs m ys
       → at ≡ freeAt l m ys
       → Stores l («validate_params» d (nodeOf i t) (written names i t)) (after at ys) r zs

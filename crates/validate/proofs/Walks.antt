@@ -80,7 +80,7 @@ arm-other d s {k} no-def no-for no-if no-else no-break no-continue no-return no-
   ne-eqb k kindLoad no-load,
 ) refl
 
--- a rule over nodes side by side: what each tree is told, in turn, and that is little
+-- a rule over nodes side by side: the errors of each tree, in turn, and these are few
 pub record Walk (all : Forest → List Err) (one : Tree → List Err) : Type 0 where
   pub empty : all none ≡ []
   pub first : (t : Tree) (ts : Forest) → all (t then ts) ≡ one t ++ all ts
@@ -95,7 +95,7 @@ pub expressions : (d : Dialect) (names : List ℕ) → Walk («visit_expr» d na
 unfolding expr
 expressions d names = record { empty = refl; first = λ t ts. refl; short = λ i t. exprs-few d names i t }
 
--- a tree is told little
+-- a tree has few errors
 module _ {l : Listing} (d : Dialect) (names : List ℕ) (i : ℕ) (t : List ℕ) {xs ys : List ℕ} {n : ℕ} where
   pub f-short : (s : Standing) → Stores l (f d names s (treeOf i t)) xs n ys → 12 * n ≤ 24 + length t
   f-short s q = omega (arith, stores-few _ q, first-few d names i t s)

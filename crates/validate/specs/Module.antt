@@ -22,7 +22,7 @@ use Rattle.validate.specs.declared.Standing.{Standing}
 use Rattle.validate.specs.declared.Arm.{Arm}
 use Rattle.validate.specs.declared.Arm.the-variants.{Def, Load, Told, Below}
 
--- where a statement stands: at top level or not, inside a for or not, inside a def or not
+-- the place of a statement: at top level or not, inside a for or not, inside a def or not
 abbrev pub standing : Bool → Bool → Bool → Standing
 standing top_level inside_for inside_def =
     record { «top_level» = top_level; «inside_for» = inside_for; «inside_def» = inside_def }
@@ -66,14 +66,14 @@ defErrors d names r ks = withParams d names (d .«enable_def») defNotPermitted 
 abbrev pub loadErrors : Dialect → Standing → Node → List Err
 loadErrors d s r = unless (s .«top_level») loadNotAtTop r ++ unless (d .«enable_load») loadNotPermitted r
 
--- what a statement is told, by its arm; visit gives what the statements below it are told in a place
+-- the errors of a statement, by its arm; visit gives the errors of the statements below it in a place
 abbrev pub onArm : Dialect → List ℕ → Standing → Node → Forest → (Standing → List Err) → Arm → List Err
 onArm d names s r ks visit Def = defErrors d names r ks ++ visit inDef
 onArm d names s r ks visit Load = loadErrors d s r
 onArm d names s r ks visit (Told n) = errAt n r ∷ []
 onArm d names s r ks visit (Below p) = visit p
 
--- a statement, and the statements among nodes side by side, in turn; a node that is no statement is told nothing
+-- a statement, and the statements among nodes side by side, in turn; a node that is no statement has no errors here
 unfoldable mutual
   pub f : Dialect → List ℕ → Standing → Tree → List Err
   f d names s (node r ks) =
@@ -85,14 +85,14 @@ unfoldable mutual
   «visit_stmt» d names s none = []
   «visit_stmt» d names s (t then ts) = f d names s t ++ «visit_stmt» d names s ts
 
--- what an expression is told by itself: `...`, or a lambda and its parameters
+-- the errors of an expression by itself: of `...`, or of a lambda and its parameters
 unfoldable pub exprErrors : Dialect → List ℕ → Node → Forest → List Err
 exprErrors d names r ks =
     if' (eqb (r .kind) kindEllipsis) (λ _. unless (permitsTypes (d .«enable_types»)) ellipsisNotPermitted r) (λ _.
     if' (eqb (r .kind) kindLambda) (λ _. withParams d names (d .«enable_lambda») lambdaNotPermitted r ks) (λ _.
     []))
 
--- all expressions in table order, wherever they stand; no other record is told anything
+-- all expressions in table order, wherever they are; no other record has errors here
 unfoldable mutual
   pub expr : Dialect → List ℕ → Tree → List Err
   expr d names (node r ks) = exprErrors d names r ks ++ «visit_expr» d names ks

@@ -63,6 +63,6 @@ unpackError (Refused f) = err (f .number) (f .node) (f .span) ∷ []
 unfoldable pub «validate_params» : Dialect → Node → List Param → List Err
 «validate_params» d owner ps = (marks d Star ps ++ marks d SlashMark ps) ++ unpackError (told (limited owner ps))
 
--- what may not be in this dialect, then its parameters, which stand first among its children
+-- what the dialect does not permit, then its parameters, which are first among its children
 unfoldable pub withParams : Dialect → List ℕ → Bool → ℕ → Node → Forest → List Err
 withParams d names permitted n r ks = unless permitted n r ++ «validate_params» d r (paramsIn names ks)

@@ -1,4 +1,4 @@
-// The expression walk of the module pass: all expressions in table order, wherever they stand.
+// The expression walk of the module pass: all expressions in table order, wherever they are.
 //
 // Ported from src/syntax/validate.rs of starlark_syntax 0.14.2 (validate_module's inner expr), and changed: expressions
 // are stretches of the node table.
@@ -19,7 +19,7 @@ ghost use Rattle.validate.specs.Inner.{StoresFew, isSite, hasSite};
 ghost use Rattle.validate.specs.Module.{exprErrors, expr, «visit_expr»};
 ghost use Rattle.table.specs.Check.{Headed, Within, mostNodes};
 
-// What the record that a stretch begins with is told by itself: `...`, or a lambda and its parameters.
+// The errors of the first record of a stretch by itself: of `...`, or of a lambda and its parameters.
 fn expr_errors(
     listing: Listing,
     d: Dialect,

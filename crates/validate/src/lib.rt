@@ -22,23 +22,23 @@ ghost use Rattle.validate.specs.Module.{«validate_module»};
 ghost use Rattle.validate.specs.Job.{listed, passErrors, moduleOf, errorsAfter};
 ghost use Rattle.table.specs.Check.{mostBytes};
 
-// What the module job answers: how many errors there are, or why it refuses.
+// The answer of the module job: the number of errors, or why it refuses.
 pub enum Listed {
     Total(u32),
     Refused(Refusal),
 }
 
-// Where a statement stands.
+// The place of a statement.
 pub struct Standing {
     pub top_level: bool,
     pub inside_for: bool,
     pub inside_def: bool,
 }
 
-// What is to be done at a statement.
+// What the walk does at a statement.
 pub enum Arm {
-    Def, // a def: what it is told itself, then its body
-    Load, // a load: what it is told, and nothing below
+    Def, // a def: its own errors, then its body
+    Load, // a load: its own errors, and nothing below
     Told(u32), // one error, and nothing below
     Below(Standing), // the statements below, in that place
 }
@@ -49,7 +49,7 @@ pub enum Mark {
     Slash,
 }
 
-// The module job. A list that is too short for all errors holds the first that fit whole, and is no refusal.
+// The module job. A list that is too short for all errors gets the first that fit whole; this is not a refusal.
 pub fn module(table: &[u8], names: &[u8], dialect: &[u8], errors: &mut [u32]) -> Listed
     ensures { λ r. ⌜ listed r ≡ moduleOf (now (table .entry)) (now (names .entry)) (now (dialect .entry)) ⌝ }
     ensures { λ r. ⌜ now (errors .exit) ≡
@@ -62,8 +62,8 @@ pub fn module(table: &[u8], names: &[u8], dialect: &[u8], errors: &mut [u32]) ->
     }
 }
 
-// The module pass alone, for who has checked 1 to 5 before: how many errors there are that the form of the list keeps.
-// It takes any bytes, and looks at no more of them than a table has at most.
+// The module pass alone, for callers that have checked 1 to 5: returns the number of errors that the form of the list
+// keeps. It accepts any bytes, and reads at most as many as a table has.
 pub fn pass(listing: Listing, table: &[u8], names: &[u8], d: Dialect, errors: &mut [u32]) -> u32
     ensures { λ r. ⌜ r ≡ length (kept listing (passErrors d (now (names .entry)) (now (table .entry)))) ⌝ }
     ensures { λ r. ⌜ now (errors .exit) ≡
@@ -73,7 +73,7 @@ pub fn pass(listing: Listing, table: &[u8], names: &[u8], d: Dialect, errors: &m
     total as u32
 }
 
-// The statements, then the expressions, which are lent what the statements leave free.
+// The statements, then the expressions. These get the words that the statements leave free.
 fn validate_module(
     listing: Listing,
     d: Dialect,

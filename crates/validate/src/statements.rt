@@ -1,4 +1,4 @@
-// The statement walk of the module pass: which statements may not stand where they are.
+// The statement walk of the module pass: which statements are not permitted in their place.
 //
 // Ported from src/syntax/validate.rs of starlark_syntax 0.14.2 (validate_module's inner f), and changed: statements are
 // stretches of the node table.
@@ -29,7 +29,7 @@ fn is_statement(kind: u8) -> bool
     (kinds::STATEMENTS <= kind) & (kind <= kinds::ASSIGN_MODIFY)
 }
 
-// Whether a for or if may not stand here: at the top level, where the dialect does not permit it.
+// Whether a for or if is not permitted here: at the top level, if the dialect does not permit it.
 fn is_banned(d: Dialect, s: Standing) -> bool
     ensures { λ r. ⌜ r ≡ isBanned d s ⌝ }
 {
