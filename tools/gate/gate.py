@@ -95,7 +95,7 @@ STEPS = [
     Step("counted", "every count in the documents is written by the tool that counts", python("tools/gate/counted.py")),
     Step("statements", "docs/STATEMENTS.md has the statements of the crate statements, and every theorem that is named is restated", python("tools/gate/statements_page.py", "--check")),
     Step("imports", "no file has an unused import", python("tools/gate/imports.py")),
-    Step("lines", "line length and `.before` chains are within their limits", python("tools/gate/lines.py")),
+    Step("lines", "line length, `.before` chains and the length of laws are within their limits", python("tools/gate/lines.py")),
     Step("flake8", "flake8 finds no fault in the Python files", ("flake8", "--config", "tools/gate/flake8.ini", ".", "ducat", "bench/command", "bench/corpus", "oracle/faults-port"), ("flake8",)),
     # rt ci is the verdict. It waits for all of a batch before it starts the next, so batches of four keep two processors busier.
     Step(

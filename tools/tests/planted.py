@@ -268,6 +268,11 @@ def before(times):
     return " .before" * times
 
 
+def law(lines, first=""):
+    """A law with a number of lines, after a blank line."""
+    return "\nlong = " + first + "x\n" + "    y\n" * (lines - 1)
+
+
 IN_LINES = [
     Planted("a line of 120 columns", added(SPECS, "x" * 120 + "\n"), None),
     Planted("a line of 121 columns", added(SPECS, "x" * 121 + "\n"), r"lines: crates/fields/specs/Field\.antt:\d+: 121 columns"),
@@ -278,6 +283,12 @@ IN_LINES = [
     Planted("a waypoint of seven", added(PROOF, f"    let judge = c{before(7)} .judge in\n"), "a chain of 7 `.before`"),
     Planted("a chain of five that is no waypoint", added(PROOF, f"    let judge = law (c{before(5)} .judge) in\n"), "a chain of 5 `.before`"),
     Planted("a chain on two lines", added(PROOF, f"(c{before(3)}\n    .before .before .judge)\n"), "a chain of 5 `.before`"),
+    Planted("a law of 25 lines", added(PROOF, law(25)), None),
+    Planted("a law of 26 lines", added(PROOF, law(26)), r"lines: crates/fields/proofs/Promises\.antt:\d+: a law of 26 lines"),
+    Planted("a law of 26 lines, one a comment", added(PROOF, law(25) + "    -- why\n"), None),
+    Planted("a definition of 26 lines", added(SPECS, law(26)), None),
+    Planted("a law with eight lets", added(PROOF, law(2, "let a = b in " * 8)), None),
+    Planted("a law with nine lets", added(PROOF, law(2, "let a = b in " * 9)), "a law with 9 `let`s"),
     Planted("no file", nothing, "there is no file", ("crates/fields/nowhere",)),
 ]
 
