@@ -462,7 +462,7 @@ def write_parser():
     parser.add_argument("table", metavar="TABLE")
     parser.add_argument("names", metavar="NAMES")
     add_dialect(parser, "that the file has; without it the file has none")
-    add_edition(parser, "that the file has, which needs a dialect; without it the file has none, and edition 1 holds")
+    add_edition(parser, "that the file has, which needs a dialect; without it the file has none, and edition 1 applies")
     add_output(parser)
     add_format(parser)
     return parser

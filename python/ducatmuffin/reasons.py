@@ -224,7 +224,7 @@ class Why:
         """The text after the words of a refusal."""
         said = "" if self.block is None else f", block {self.block}"
         if self.node is not None:
-            known = f"kind {self.kind} {name_of(self.kind)}" if self.kind in KINDS else f"kind {self.kind}, which is none"
+            known = f"kind {self.kind} {name_of(self.kind)}" if self.kind in KINDS else f"kind {self.kind}, which is not a kind"
             said += f", node {self.node}, {known}"
         return said + (f": {self.sentence}" if self.sentence else "")
 

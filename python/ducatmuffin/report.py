@@ -236,7 +236,7 @@ def refused_part(inputs):
         known = [f"{key} {told[key]}" for key in ("block", "node") if key in told] + [told[key] for key in ("reason", "hint") if key in told]
         known.append(f"{one.entry['bytes']:,} bytes read, SHA-256 {one.entry['sha256']}")
         rows.append((one.name, told["number"], page.text(told["words"]), '<span class="sum">' + "<br>".join(map(page.text, known)) + "</span>"))
-    return page.table("Nothing else is known of these", ("table file", "refused", "meaning", "what is known"), rows) if rows else ""
+    return page.table("Nothing else is known about these", ("table file", "refused", "meaning", "what is known"), rows) if rows else ""
 
 
 def unread_part(inputs):
