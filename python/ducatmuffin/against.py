@@ -1,8 +1,8 @@
 """ducat check --against DIALECT: what the move of an input from its own dialect to one that permits more does to its errors.
 
 Both lists are answers of the proved library. Where DIALECT permits all that the input's own dialect does, and both agree on top-level
-statements, the second list of the module pass is the first without the numbers of the switches that open (crates/opening): so what the move takes
-out is what the second answer lacks. If the second answer is not a part of the first, that is a fault, and the command ends.
+statements, the second list of the module pass is the first without the numbers of the switches that open (crates/opening). So the move removes
+what the second answer lacks. If the second answer is not a part of the first, that is an internal error, and the command ends.
 """
 from . import check, dialects
 from .library import Refusal
@@ -18,7 +18,7 @@ NOT_TIED = "enable_top_level_stmt opens and there were errors, so no theorem rel
 
 
 def row(dialect):
-    """The nine bytes of a dialect; of none Extended's are meant."""
+    """The nine bytes of a dialect; Extended's for none."""
     return dialect or DIALECTS[dialects.MEANT]
 
 
@@ -32,7 +32,7 @@ def place(error):
 
 
 def lacking(first, second):
-    """The errors of a list that another lacks, which is the list with some taken out."""
+    """The errors of a list that are missing in another one, which is the list without some errors."""
     out, at = [], 0
     for error in first:
         if at < len(second) and place(second[at]) == place(error):
@@ -59,7 +59,7 @@ def besides(errors, known):
 
 
 class Move:
-    """What the move does: the switches that open and close, the module pass's totals before and after, and the errors that are taken out (None where the
+    """What the move does: the switches that open and close, the module pass's totals before and after, and the errors that are removed (None if the
     lists are not tied); the errors of the other jobs after it."""
 
     def __init__(self, first, second):

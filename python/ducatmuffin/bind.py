@@ -20,7 +20,7 @@ STARS = {KIND["ArgsParam"]: "*", KIND["KwArgsParam"]: "**"}
 FLAT = frozenset([KIND["Normal"], *STARS])
 MODES = {1: "by place only", 2: "by place or name", 3: "by name only", 4: "collects by place", 5: "collects by name"}
 LONGEST = 60  # characters of a script's text in a line
-MANY, BATCH, THREADS = 2000, 16, 4  # pairs from which on threads are used, calls at a time, threads at most
+MANY, BATCH, THREADS = 2000, 16, 4  # the number of pairs from which on threads are used, of calls at a time, and the largest number of threads
 HEAD = re.compile(rb"def[\s\\]+([\w\x80-\xff]+)")
 NO_DEF = "no def of this name"
 UNNAMED = {CALL: "a call of a call, which is bound to no def", DOT: "a method call, which is bound to no def"}
@@ -28,7 +28,7 @@ OTHER = "a call of an expression, which is bound to no def"
 
 
 class Tree:
-    """A sound table by its defs and calls. `number` gives the number of a node in JSON, which is its own but for a table of two statements."""
+    """A sound table by its defs and calls. `number` gives the number of a node in JSON, which is its own except in a table of two statements."""
 
     def __init__(self, table, names, number=lambda node: node):
         self.table, self.names, self.records, self.number = table, names, decode(table), number
@@ -61,11 +61,11 @@ class Tree:
         return (self.name(node), *reversed(names)) if self.records[node].kind == IDENTIFIER else None
 
     def callee(self, node):
-        """The name of what is called, where that is an identifier."""
+        """The name of the callee, if it is an identifier."""
         return self.name(node + 1) if self.records[node + 1].kind == IDENTIFIER else None
 
     def unnamed(self, node):
-        """What a call is whose callee is not an identifier."""
+        """The form of a call whose callee is not an identifier."""
         return UNNAMED.get(self.records[node + 1].kind, OTHER)
 
 
@@ -134,7 +134,7 @@ class Places:
         return text_in(source, *self.tree.span(node)) if source else self.bytes.value(node)
 
     def of_table(self, node):
-        """The text of an argument or a call, as far as its table has it."""
+        """The text of an argument or a call, as far as its table gives it."""
         if self.tree.records[node].kind != CALL:
             return self.bytes.text(node)
         name = self.tree.callee(node)
@@ -158,7 +158,7 @@ def text_in(source, begin, end):
 
 
 def place_in(source, begin, named):
-    """The line and column of a byte, after the script's name where that is wanted."""
+    """The line and column of a byte, after the script's name if that is wanted."""
     where = "{}:{}".format(*source.line_column(begin))
     return f"{visible(source.path)}:{where}" if named else where
 
@@ -173,7 +173,7 @@ class Namesake:
 
 
 class Binder:
-    """Asks the library about the calls and defs of one table."""
+    """Calls the library for the calls and defs of one table."""
 
     def __init__(self, library, tree):
         self.library, self.tree, self.modes, self.flat, self.arguments, self.named = library, tree, {}, {}, {}, {}
@@ -265,7 +265,7 @@ class Binder:
         return f"{self.reached(one, places, place)}, though there is a parameter {shown(self.tree.name(one.parameter))}"
 
     def counted(self, answer):
-        """For 19 how many entries the list has."""
+        """For 19 the number of entries of the list."""
         return f": {reasons.too_many(self.entries(answer))}" if answer.number == reasons.TOO_MANY else ""
 
     def entries(self, answer):
@@ -384,7 +384,7 @@ class Whole:
             yield call, [Pair(self.binder, self.places, call, def_, answer) for def_, answer in zip(defs, answers)]
 
     def trees(self):
-        """The nodes of the table, for what looks at all of them."""
+        """The nodes of the table, for code that visits all of them."""
         yield Nodes([record.kind for record in self.tree.records], [name_of(record, self.tree.names) for record in self.tree.records],
                     parents(self.tree.records), lambda at: at)
 
@@ -463,7 +463,7 @@ class Run:
             self.failed(found, str(error))
 
     def read(self, found):
-        """Reads a table file, and says whether it is accepted."""
+        """Reads a table file, and returns whether it is accepted."""
         try:
             found.data = inputs.read(found.one, inputs.TABLE_MOST)
         except (OSError, ValueError) as error:
@@ -479,7 +479,7 @@ class Run:
         return True
 
     def parsed(self, found):
-        """Reads a script, or several, and says whether all are Starlark."""
+        """Reads a script, or several, and returns whether all are Starlark."""
         found.dialect = self.options.dialect
         if not (read_parts(found) and parsed(found)):
             self.not_starlark(found) if found.verdict == SYNTAX else self.failed(found)
@@ -487,7 +487,7 @@ class Run:
         return True
 
     def sound(self, found):
-        """Says whether the table of a script is accepted."""
+        """Returns whether the table of a script is accepted."""
         answer = self.library.table(found.table, found.names)
         if type(answer) is Refusal:
             self.refused(found, answer)
@@ -504,7 +504,7 @@ class Run:
     # ---- what cannot be bound
 
     def unmet(self, why):
-        """No expectation is met by an input that is not bound. In JSON, as a part of the input's; else in lines."""
+        """An input that is not bound meets no expectation. In JSON this is a part of the input's, otherwise lines."""
         judged = self.options.expectations.unmet(f"the input {why}")
         self.worse(int(bool(judged)))
         if self.report:
@@ -513,7 +513,7 @@ class Run:
         return None
 
     def failed(self, found, message=None):
-        """An input that is not read, or has no table, or, with a message, whose script is another's."""
+        """An input that is not read or has no table, or, with a message, whose script is not the table's."""
         self.worse(2)
         none = found.verdict == NO_TABLE
         why = "is not bound to its script" if message is not None else "has no table" if none else "cannot be read"
@@ -663,7 +663,7 @@ class Run:
         self.told(found, verdict=verdict, **script_json(found), pairs=pairs, without_def=[world.call_json(call) for call in alone], **more, totals=totals)
 
     def paired_end(self, found, world, totals, judged):
-        """The totals, what the expectations come to, and on standard error the notes."""
+        """The totals, the results of the expectations, and on standard error the notes."""
         line = "bound {bound}, refused {refused}, without a def {without_def}".format(**totals)
         line += f", namesakes {totals['namesakes']}" if totals["namesakes"] else ""
         self.out.lines([line + (f", not judged {totals['not_judged']}" if "not_judged" in totals else "")])

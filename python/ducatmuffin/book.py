@@ -1,6 +1,6 @@
 """ducat book: looks up, adds and removes entries of a zone book and a line book, lists them, and makes an empty book.
 
-A change takes a lock on a file beside the book, opens the book only then, and puts the new book in its place as a whole. So two commands at once
+A change takes a lock on a file beside the book, opens the book only then, and replaces the whole book. So two commands at once
 never lose an entry, and a command that is ended leaves the old book or the new one.
 """
 import os
@@ -13,9 +13,9 @@ from .library import BookRefusal
 from .output import Failed, digest, named, say, visible
 
 BLOCK, CONTENT, ENTRY, PLACES, MOST_BLOCKS = 512, 504, 24, 21, 100
-MOST = MOST_BLOCKS * BLOCK + 1  # one byte more than the largest book has
+MOST = MOST_BLOCKS * BLOCK + 1  # one byte more than the largest book
 BOOKS = ("zone", "line")
-UNUSED = b""  # the book that a change does not look at
+UNUSED = b""  # the book that a change does not read
 TYPES = ("disabled", "parsed only", "enabled")
 
 
@@ -52,7 +52,7 @@ def entries(book):
 # ---- why a book is refused
 
 def unsound(book, line):
-    """What is wrong with a book that 95 refuses: its length, a block or an entry; None where nothing is found."""
+    """What is wrong with a book that 95 refuses: its length, a block or an entry; None if nothing is found."""
     if len(book) % BLOCK or not 1 <= len(book) // BLOCK <= MOST_BLOCKS:
         more = " or more" if len(book) >= MOST else ""
         return f"a book has 1 to {MOST_BLOCKS} blocks of {BLOCK} bytes, and this one has {len(book):,} bytes{more}"
@@ -199,7 +199,7 @@ def regular(path, name):
 
 
 class Lock:
-    """The right to change a book, from a file beside it. That file stays: another command may wait for it."""
+    """The right to change a book, from a file beside it. That file is not removed: another command may wait for it."""
 
     def __init__(self, path, name):
         self.path, self.name, self.descriptor = f"{path}.lock", name, None
@@ -228,14 +228,14 @@ def remove(library, options, out):
 
 
 def judged(library, book, line):
-    """What the library says of one book: None, or the refusal."""
+    """The library's answer for one book: None, or the refusal."""
     other = library.book_blank(1)
     answer = library.book_lookup(*((other, book) if line else (book, other)), 0, 0)
     return answer if answer.number in (95, 96) else None
 
 
 def list_(library, options, out):
-    """The entries of a book; it is taken for a line book where it passes as one and not as a zone book."""
+    """The entries of a book; it is read as a line book if it is valid as one and not as a zone book."""
     book = read(options.book)
     line = judged(library, book, False) is not None and judged(library, book, True) is None
     refusal = judged(library, book, line)

@@ -10,24 +10,24 @@ ALL = "the whole checker accepts: the module pass, and every job on every node t
 MODULE = "none of 10 to 19 and 50 to 61; 20 to 45 (calls, targets, types) are not looked for with --module"
 STEP = "a script's table is made by ducat's own parser, and that step is not proved"
 MADE = "made from the script by ducat's own parser; that step is not proved"
-SYNTAX_WORD = "syntax:"  # with which the message of what is not Starlark begins
+SYNTAX_WORD = "syntax:"  # the begin of the message for a script that is not Starlark
 TEXT = frozenset(range(32, 127)) | frozenset(range(128, 256)) | frozenset(b"\t\n\r\f")
 VERDICTS = ("accepted", "errors", "refused", "unreadable", "no table", "syntax", "no opening", "other dialect")
 ACCEPTED, ERRORS, REFUSED, UNREADABLE, NO_TABLE, SYNTAX, NO_OPENING, OTHER = range(8)  # no opening is against.py's
 STATUS = (0, 1, 2, 2, 2, 1, 2, 2)
-SAYS_THE_STEP = ("json", "sarif")  # the formats that say of a script that its table is not proved
+SAYS_THE_STEP = ("json", "sarif")  # the formats that report that the table of a script is not proved
 REPEATED = {11: "parameter", 22: "argument"}  # the errors that have an earlier place
 
 
 class Options:
-    """How a run checks and prints. `json` is whether an input's JSON is made, for whatever `format` but text; `paint` colours the text."""
+    """How a run checks and prints. `json` is whether an input's JSON is made, for every `format` but text; `paint` colours the text."""
 
     def __init__(self, module=False, explain=False, quiet=False, bad_only=False, json=False, many=False, dialect=None, scripts=None, format=None,
                  paint=PLAIN, edition=None):
         self.module, self.explain, self.quiet, self.bad_only = module, explain, quiet, bad_only
         self.format = format or ("json" if json else "text")
         self.json, self.many, self.dialect, self.scripts, self.paint = self.format != "text", many, dialect, scripts, paint
-        self.edition = edition  # of scripts; None where none is given, and then edition 1 holds
+        self.edition = edition  # of scripts; None if none is given, and then edition 1 applies
         self.by_books = False  # the dialect is the books', also of table files
 
 
@@ -56,7 +56,7 @@ class Found:
         self.one, self.verdict, self.nodes, self.errors, self.total, self.pieces = one, ACCEPTED, None, (), 0, ()
         self.parts = [Part(file, script) for file, script in inputs.scripts_of(one)] if one.script else []
         self.refusal = self.why = self.message = self.data = self.dialect = self.table = self.names = self.scripts = self.statements = None
-        self.edition, self.effective_edition = None, dialects.EDITION  # what the file has or is given for a script, and what holds
+        self.edition, self.effective_edition = None, dialects.EDITION  # what the file has or is given for a script, and what applies
 
     def hold(self, table, names, targets=(), fstrings=()):
         """One table, and what a script has besides: the targets of comprehensions and the f-strings, as export.Exported has them."""
@@ -69,7 +69,7 @@ class Found:
 
     @property
     def failed(self):
-        """The scripts without a table of their own."""
+        """The scripts without a table."""
         return [part for part in self.parts if part.failed]
 
     @property
@@ -79,7 +79,7 @@ class Found:
 
 
 def read_parts(found):
-    """Reads the scripts of an input, and says whether all are read."""
+    """Reads the scripts of an input, and returns whether all are read."""
     for part in found.parts:
         try:
             part.data = inputs.read_script(part.one)
@@ -94,7 +94,7 @@ def read_parts(found):
 
 
 def parsed(found):
-    """Reads the statements of the scripts, and says whether all are Starlark."""
+    """Reads the statements of the scripts, and returns whether all are Starlark."""
     from . import export
     found.statements = []
     for part in found.parts:
@@ -121,7 +121,7 @@ def in_one_table(found):
 
 
 def in_tables(found):
-    """Makes several tables of the statements, and says whether each statement fits into one."""
+    """Makes several tables of the statements, and returns whether each statement fits into one."""
     from . import export
     try:
         found.pieces = export.cut([part.data for part in found.parts], found.statements, found.parts[0].file)
@@ -199,7 +199,7 @@ class Checker:
         self.judge(found)
 
     def of_the_books(self, found):
-        """Whether a table file has the dialect of the books, or none, and then takes it."""
+        """Whether a table file has the dialect of the books, or none, and then gets it."""
         if found.dialect not in (None, self.options.dialect):
             own, wanted = dialects.name_of(found.dialect), dialects.name_of(self.options.dialect)
             found.verdict, found.message = OTHER, f"its dialect is {own}, and the books give {wanted}: it is not checked"
@@ -244,7 +244,7 @@ class Checker:
                 for answer, shift in answers if type(answer) is Refusal]
 
     def in_f_strings(self, found):
-        """62 for each f-string of a script, which a table does not mark, where the writer of format texts says that the dialect has none."""
+        """62 for each f-string of a script, which a table does not mark, if the writer of format texts reports that the dialect has none."""
         return [Error(62, file_of(piece.table, node), *span_of(piece.table, node), node + piece.shift)
                 for piece in found.pieces for node, parts in piece.fstrings
                 if self.library.fstring_write(parts, found.dialect).notice]
@@ -271,14 +271,14 @@ class Checker:
         return None
 
     def entries(self, found, error):
-        """For 19 how many entries the list has, marks counted; otherwise None."""
+        """For 19 the number of entries of the list, marks counted; otherwise None."""
         if error.number != reasons.TOO_MANY:
             return None
         places = self.nodes_of(found, error, reasons.LISTS)
         return max((reasons.entries(piece.table, piece.names, node) for piece, node in places), default=None)
 
     def nodes_of(self, found, error, kinds=(50, 53, 54)):
-        """The table and the node in it of an error; the module pass does not list it, so it is looked for by its kind and span."""
+        """The table of an error and the node in it; the module pass does not list the node, so it is searched by its kind and span."""
         if error.node is not None:
             return [found.place_of(error.node)]
         return [(piece, node) for piece in found.pieces for node, row in enumerate(reasons.Records(piece.table, piece.names).rows)
@@ -458,7 +458,7 @@ def size_of(table, node):
 
 
 def span_of(table, node):
-    """The span of a node; of a named argument its name's, as refusal 22 has it."""
+    """The span of a node; for a named argument that of its name, as in refusal 22."""
     kind, _, length, _, begin, end, _, _, position = reasons.RECORD.unpack_from(table, NODE_BYTES * node)
     return (position, position + length) if kind == reasons.NAMED_ARGUMENT else (begin, end)
 
@@ -474,7 +474,7 @@ def kind_words(piece, node):
 
 
 def node_json(table, node, number=None):
-    """A node and its kind in JSON; `number` is its number in the table of the whole, where that is another one."""
+    """A node and its kind in JSON; `number` is its number in the table of the whole, if that is another one."""
     kind = table[NODE_BYTES * node]
     return {"node": node if number is None else number, "kind": {"number": kind, "name": KINDS[kind][0]}}
 
@@ -507,13 +507,13 @@ def span_json(source, file, begin, end):
 
 
 def evidence(data, script):
-    """What ties an answer to the bytes that were read. Of a table file that is longer than any may be, only the first bytes are."""
+    """What identifies the bytes that were read. Only the first bytes are read of a table file that is longer than allowed."""
     from .output import digest
     return {"sha256": digest(data), "bytes": len(data), "whole": script or len(data) < inputs.TABLE_MOST}
 
 
 def evidence_of(found):
-    """The evidence of an input: of scripts that are joined that of each, with its source file number."""
+    """The evidence of an input; for joined scripts that of each, with its source file number."""
     if is_joined(found.one):
         return {"scripts": [{"file": part.file, **named(part.one.name), **(evidence(part.data, True) if part.data is not None else {}),
                              **part_failed(part)} for part in found.parts]}
@@ -544,7 +544,7 @@ def syntax_json(error, file):
 
 
 def hint_of(found):
-    """What a refused file seems to be, where it is not a table file at all."""
+    """What a refused file seems to be, if it is not a table file at all."""
     data = found.data
     if found.refusal.number < 70 or found.one.script:
         return None
@@ -579,7 +579,7 @@ class Totals:
 
 
 def run(library, options, found, jobs, out, front, checker=None, totals=None):
-    """Checks all inputs and prints what is found of them. Returns the exit status. `front` is what JSON has first. `checker` and `totals` stand in for
+    """Checks all inputs and prints the results. Returns the exit status. `front` is what JSON has first. `checker` and `totals` replace
     those of a plain check."""
     from .workers import answers
     checker, totals = checker or Checker(library, options), totals or Totals()

@@ -258,7 +258,7 @@ def make_parser(command, description, epilog=None):
 
 
 def parse(parser, words):
-    """Options may come before, between and after the names; what comes after -- is a name, whatever it begins with."""
+    """Options may come before, between and after the names; a word after -- is always a name."""
     cut = words.index("--") if "--" in words else len(words)
     names = words[cut + 1:]
     options = parser.parse_intermixed_args(words[:cut] + [f"\0{at}" for at in range(len(names))])
@@ -271,7 +271,7 @@ def parse(parser, words):
 
 
 def restored(value, names):
-    """The name that argparse was not to see: no word of a command line has a NUL."""
+    """The name that is hidden from argparse: no word of a command line has a NUL."""
     return names[int(value[1:])] if isinstance(value, str) and value.startswith("\0") else value
 
 
@@ -290,7 +290,7 @@ def add_color(parser):
 
 
 def machine(format_):
-    """Whether the JSON of a run is made, as it is or for another format."""
+    """Whether the JSON of a run is made, to print it or for another format."""
     return format_ != "text"
 
 
@@ -462,7 +462,7 @@ def write_parser():
     parser.add_argument("table", metavar="TABLE")
     parser.add_argument("names", metavar="NAMES")
     add_dialect(parser, "that the file has; without it the file has none")
-    add_edition(parser, "that the file has, which needs a dialect; without it the file has none, and edition 1 holds")
+    add_edition(parser, "that the file has, which needs a dialect; without it the file has none, and edition 1 applies")
     add_output(parser)
     add_format(parser)
     return parser
@@ -535,7 +535,7 @@ def build_parser():
 # ---- what the words mean
 
 def open_library():
-    """The library that the commands use, built where it must be."""
+    """The library that the commands use, built if necessary."""
     from . import build, library
     try:
         found = library.load(build.ensure(sys.stderr))
@@ -584,7 +584,7 @@ class Configured:
 
 
 def scripts_named(words, wanted=True):
-    """The scripts that --script names; read only where they are wanted."""
+    """The scripts that --script names; read only if they are needed."""
     if not words:
         return None
     from . import scripts
@@ -612,7 +612,7 @@ def joined(options, found):
 
 
 def once(*names):
-    """Standard input is there once."""
+    """Standard input can be read once."""
     if sum(name == "-" for name in names) > 1:
         raise Failed("standard input (`-`) is named twice")
 
@@ -1001,7 +1001,7 @@ def dispatch(words, out):
 
 
 def guard_descriptors():
-    """A closed descriptor would be given to the next file that is opened. Closed standard input stays one that cannot be read."""
+    """A closed descriptor would be given to the next file that is opened. Closed standard input still cannot be read."""
     for descriptor, mode in ((2, os.O_WRONLY), (0, os.O_WRONLY), (1, None)):
         try:
             os.fstat(descriptor)

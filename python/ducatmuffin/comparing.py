@@ -26,7 +26,7 @@ class Side:
 
 
 class Difference:
-    """What differs: the node, where there is one, and for each field the two values."""
+    """What differs: the node, if there is one, and for each field the two values."""
 
     def __init__(self, node, **fields):
         self.node, self.fields = node, fields
@@ -77,7 +77,7 @@ def in_json(name, value):
 
 
 def line_of(found, ours, sources):
-    """The difference in a line: the place in the script where there is one, and the values of the script's table and of the file's."""
+    """The difference in a line: the place in the script, if there is one, and the values of the script's table and of the file's."""
     said = "; ".join(f"{name.replace('_', ' ')} {words_of(name, a)} and {words_of(name, b)}" for name, (a, b) in found.fields.items())
     if found.node is None or "nodes" in found.fields:
         return f"differs, {said}"
@@ -88,7 +88,7 @@ def line_of(found, ours, sources):
 
 
 def read(library, options):
-    """The table of FILE, its evidence, and where its blocks are bad the refusal. One that is not sound is compared all the same."""
+    """The table of FILE, its evidence, and the refusal if its blocks are bad. A table that is not sound is compared too."""
     one = inputs.standard_input() if options.compare == "-" else inputs.Input(options.compare)
     try:
         data = inputs.read(one, inputs.TABLE_MOST)

@@ -22,14 +22,14 @@ MOST = 1 << 20  # bytes
 
 
 class Configuration:
-    """What a file says. `dialect` is the word in it, or None."""
+    """The contents of a file. `dialect` is the word in it, or None."""
 
     def __init__(self, path, dialect=None, exclude=(), as_script=(), expect=()):
         self.path, self.dialect, self.exclude, self.as_script, self.expect = path, dialect, tuple(exclude), tuple(as_script), tuple(expect)
 
 
 def load(path=None):
-    """The configuration that --config names, or the one of the current folder; None where there is none."""
+    """The configuration that --config names, or the one of the current folder; None if there is none."""
     if path is None:
         if not os.path.lexists(NAME):
             return None
@@ -71,7 +71,7 @@ def parsed(path, data):
 
 
 def told(configuration, dialect, excluded):
-    """The line on standard error of a run that uses a configuration."""
+    """The line on standard error for a run that uses a configuration."""
     return f"configuration {configuration.path}: dialect {dialect}, {excluded:,} path{'' if excluded == 1 else 's'} excluded"
 
 

@@ -4,12 +4,12 @@ import re
 from .numbers import DIALECT_BYTES, DIALECTS
 
 MEANT = "extended"  # where there is none
-EDITION = 1  # the edition of the type rules that holds where there is none
+EDITION = 1  # the edition of the type rules if none is given
 FORM = "standard, extended, all, none or nine digits"
 
 
 def of(word):
-    """The bytes of a dialect's name or digits; None for none. Which digits are a dialect the library says (5)."""
+    """The bytes of a dialect's name or digits; None for none. The library decides which digits are a dialect (5)."""
     if word.lower() == "none":
         return None
     if word.lower() in DIALECTS:
@@ -28,7 +28,7 @@ def name_of(dialect):
 
 
 def told(dialect, script=False):
-    """The dialect in use, and whether it is only meant."""
+    """The dialect in use, and a note if none was given."""
     return name_of(dialect) if dialect else f"{MEANT} ({'none is given' if script else 'the file has none'})"
 
 
@@ -38,7 +38,7 @@ def edition_told(edition):
 
 
 def edition_json(edition):
-    """Where none is given, edition 1 holds."""
+    """If none is given, edition 1 applies."""
     return {"number": int(edition or EDITION), "given": edition is not None}
 
 
@@ -48,5 +48,5 @@ def in_json(dialect):
 
 
 def both_json(dialect, edition):
-    """A dialect and an edition, as the keys of an input have them."""
+    """A dialect and an edition, as the keys of an input."""
     return {"dialect": in_json(dialect), "edition": edition_json(edition)}

@@ -1,7 +1,7 @@
 """ducat diff OLD.json NEW.json: the errors of two runs of `ducat check`, or of `ducat bind`, that only one of them has.
 
-An error is the same where its input, its number, its source file number and its bytes are the same; of a call also those of the def. One that has
-moved in its script is gone from its old place and new at the other: nothing says that it is the same.
+An error is the same if its input, its number, its source file number and its bytes are the same; for a call also those of the def. An error that
+has moved in its script is gone from its old place and new at the other: nothing shows that it is the same.
 """
 import json
 
@@ -30,7 +30,7 @@ def read(path):
 
 
 def items(told):
-    """The errors of a run by what makes them the same, each with its words; one that a run has twice is there twice."""
+    """The errors of a run by the key that identifies them, each with its words; one that a run has twice is there twice."""
     found = {}
     for entry in told["inputs"]:
         for key, words in of_input(entry):
@@ -94,12 +94,12 @@ def where(told, name):
 
 
 def lacking(first, second):
-    """The words of what the first of two runs has and the second has not."""
+    """The words of what only the first of two runs has."""
     return [words for key, said in first.items() for words in said[len(second.get(key, ())):]]
 
 
 def run(options, out, front):
-    """Prints what is new and what is gone. Returns the exit status: 1 where something is new."""
+    """Prints what is new and what is gone. Returns the exit status: 1 if something is new."""
     (old, before, first), (new, after, second) = read(options.old), read(options.new)
     for key in ("command", "module", "against"):
         if old.get(key) != new.get(key):

@@ -9,7 +9,7 @@ from .output import Failed, Report, dumps, named, say, shown
 
 
 def run(library, options, out, front):
-    """Prints the text, or writes it. Returns the exit status: 0, or 2 where the blocks of the file are refused."""
+    """Prints the text, or writes it. Returns the exit status: 0, or 2 if the blocks of the file are refused."""
     one = options.input
     try:
         data = inputs.read_script(one) if one.script else inputs.read(one, inputs.TABLE_MOST)
@@ -65,7 +65,7 @@ def start(one, data):
 
 
 def comments(fstrings):
-    """A line of each f-string, with its format text, which a table does not hold."""
+    """A line for each f-string, with its format text, which a table does not have."""
     return "".join(f"# node {node}, the format text of an f-string: {json.dumps(text)}\n" for node, text in fstrings)
 
 

@@ -20,7 +20,7 @@ BINDING = frozenset(KIND[word] for word in ("Assign", "AssignModify", "For"))
 
 
 class Expectation:
-    """What is expected: the names of a def and of a parameter, and the path that is to be passed. `text` is as it was given."""
+    """What is expected: the names of a def and of a parameter, and the path that must be passed. `text` is the text that was given."""
 
     def __init__(self, text, def_, parameter, path):
         self.text, self.def_, self.parameter, self.name = text, def_.encode(), parameter.encode(), path
@@ -52,7 +52,7 @@ def in_file(path):
 
 
 def gathered(words, path, configuration):
-    """All expectations, each once: of the command line, of its file, and of the configuration. Raises Failed also where two contradict each other."""
+    """All expectations, each once: of the command line, of its file, and of the configuration. Raises Failed also if two contradict each other."""
     found = [expectation(word, "--expect") for word in words]
     found += in_file(path) if path is not None else []
     found += [expectation(line, configuration.path) for line in configuration.expect] if configuration else []
@@ -75,7 +75,7 @@ class Unmet:
 
 
 class Judged:
-    """What came of an expectation: how many calls were judged, and what leaves it unmet, in the order of the scripts."""
+    """The result of an expectation: the number of calls judged, and what leaves it unmet, in the order of the scripts."""
 
     def __init__(self, one, calls, unmet):
         self.text, self.calls, self.unmet = one.text, calls, sorted(unmet, key=Unmet.order)
@@ -102,11 +102,11 @@ class Expectations:
             self.by_def.setdefault(one.def_, []).append(one)
 
     def start(self):
-        """What looks at one input."""
+        """The check of one input."""
         return Seen(self)
 
     def unmet(self, why):
-        """What comes of the expectations where an input is not bound."""
+        """The result of the expectations for an input that is not bound."""
         return [Judged(one, 0, [Unmet(why)]) for one in self.expected]
 
 
@@ -154,7 +154,7 @@ def unmet_at(world, spot, words):
 # ---- the def
 
 def of_defs(world, one, calls):
-    """A def that is there once, is called, and has the parameter."""
+    """There is one such def, it is called, and it has the parameter."""
     defs, name, parameter = world.defs.get(one.def_, []), shown(one.def_), shown(one.parameter)
     if not defs:
         yield Unmet(f"{name} is defined nowhere")

@@ -1,5 +1,5 @@
-"""A table of a Starlark script, or of several: the tree of the module `parser` as records. No part of this is proved: what the checker reports is
-proved of the table alone.
+"""A table of a Starlark script, or of several: the tree of the module `parser` as records. No part of this is proved: the checker's answers are
+proved only for the table.
 
     table, names = export(source, "a.star", dialect)     raises ScriptError with line, column and message
     made = joined_export([zone, line])                   raises ScriptError, whose `at` says which script it is of
@@ -21,7 +21,7 @@ WEIGHTS = [weight(kind) for kind in range(256)]
 
 
 class Exported(NamedTuple):
-    """A table, its names, and what it does not hold: the nodes that are targets of comprehensions, and each f-string by its node and its parts."""
+    """A table, its names, and what a table does not have: the nodes that are targets of comprehensions, and each f-string by its node and its parts."""
     table: bytes
     names: bytes
     targets: List[int]
@@ -225,7 +225,7 @@ class Size(NamedTuple):
         return sum(len(name) for name in self.names)
 
     def beyond(self):
-        """The limits of a table that it exceeds, in words; none where it fits."""
+        """The limits of a table that it exceeds, in words; none if it fits."""
         limits = ((self.nodes, numbers.NODES, "nodes"), (self.name_bytes, numbers.NAME_BYTES, "bytes of names"), (self.depth, numbers.DEPTH, "levels"))
         return [f"{found:,} {what}, and a table has at most {most:,}" for found, most, what in limits if found > most]
 
@@ -249,7 +249,7 @@ def cut(sources: Sequence[bytes], scripts: Sequence[List[Node]], first: int = 1)
             if not groups[-1].takes(size):
                 groups.append(_Group())
             groups[-1].add(statement, first + at, size)
-    # the table of the whole has a root above its statements, but for a single script of one statement
+    # the table of the whole has a root above its statements, except for a single script of one statement
     pieces, number = [], int(len(scripts) > 1 or len(scripts[0]) != 1)
     for group in groups:
         made = table_of(root_of(group.statements, group.files), group.files)

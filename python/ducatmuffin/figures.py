@@ -1,10 +1,10 @@
 """ducat figures: counts over table files that are joined into one input.
 
-The files are read into a buffer and counted by the library's step, which adds the file at the front of the buffer. The library proves that such steps
-give the report of the whole input as long as a step sees 59,904 bytes, or all that are left. So memory does not grow with the input.
+The files are read into a buffer and counted by the library's step, which adds the file at the front of the buffer. It is proved that such steps
+give the report of the whole input as long as a step gets 59,904 bytes, or all that are left. So memory does not grow with the input.
 
 With --jobs the list of inputs is cut into parts. Their reports are added in order, up to the first part that a refusal ended. If that is 70 (a block is
-short), the file may go on in the next part: everything from there on is counted once more, in one process.
+short), the file may continue in the next part: everything from there on is counted once more, in one process.
 """
 import ctypes
 import os
@@ -31,7 +31,7 @@ EXPLAINED = (
 
 
 class Counted:
-    """The report of an input, or of a part of one: the counts, the refusal's number (0 where there is none) and position, the length of each file, and why a
+    """The report of an input, or of a part of one: the counts, the refusal's number (0 if there is none) and position, the length of each file, and why a
     file cannot be read. All of it can be sent to another process."""
 
     def __init__(self, counts, number=0, position=0, lengths=(), failed=None):
@@ -48,14 +48,14 @@ class Counted:
 # ---- reading
 
 class Stream:
-    """The inputs one after another. `skip` bytes of the first are left out. `lengths` has what was read of each so far."""
+    """The inputs one after another. `skip` bytes of the first are left out. `lengths` has the number of bytes read from each so far."""
 
     def __init__(self, found, skip=0):
         self.waiting, self.skip, self.descriptor, self.lengths = iter(found), skip, None, []
         self.name = None
 
     def read(self, view):
-        """Fills a part of a buffer, and returns how many bytes it has; 0 is the end of all inputs. Raises OSError or ValueError."""
+        """Fills a part of a buffer, and returns its number of bytes; 0 is the end of all inputs. Raises OSError or ValueError."""
         while self.descriptor is not None or self.open_next():
             got = os.readv(self.descriptor, [view])
             if got:
@@ -84,7 +84,7 @@ class Stream:
         self.descriptor = None
 
     def measure(self):
-        """The lengths of what is left: of a regular file by its size, of others by reading them."""
+        """The lengths of the rest: for a regular file its size, for others by reading them."""
         space = memoryview(bytearray(inputs.CHUNK))
         while self.descriptor is not None or self.open_next():
             told = os.fstat(self.descriptor)
@@ -109,12 +109,12 @@ class Window:
         self.base = ctypes.addressof((ctypes.c_char * BUFFER).from_buffer(self.buffer))
 
     def count(self, stream, progress):
-        """Counts all of a stream. Returns the number of the refusal that ended it, or 0, and the position. Raises OSError or ValueError where a read fails,
+        """Counts all of a stream. Returns the number of the refusal that ended it, or 0, and the position. Raises OSError or ValueError if a read fails,
         unless a refusal comes before: only 70 depends on the bytes that follow."""
         end, taken = 0, 0
         while True:
             end, ended, error = self.fill(stream, end)
-            # at the end of the input a step sees all that is left
+            # at the end of the input a step gets all that is left
             at, number = self.library.figures_steps(self.base, self.base + end, 1 if ended else WINDOW_BYTES, self.counts)
             at -= self.base
             taken += at
@@ -127,7 +127,7 @@ class Window:
             end -= at
 
     def fill(self, stream, end):
-        """Reads until the buffer is full. Returns how many bytes it has, whether no more come, and why where a read fails."""
+        """Reads until the buffer is full. Returns its number of bytes, whether the input has ended, and the reason if a read fails."""
         try:
             while end < BUFFER:
                 got = stream.read(self.view[end:])
@@ -140,7 +140,7 @@ class Window:
 
 
 def count(library, found, counts=NO_FIGURES, skip=0, measured=False, progress=None):
-    """The report of inputs as one process makes it. `measured`: the lengths are whole also after a refusal."""
+    """The report of inputs, made by one process. `measured`: the lengths are complete also after a refusal."""
     stream, window = Stream(found, skip), Window(library, counts)
     try:
         number, position = window.count(stream, progress or Silent())
@@ -162,7 +162,7 @@ def sizes_of(found):
         try:
             told = os.stat(one.path) if one.path is not None and one.error is None else None
         except (OSError, ValueError):
-            told = None  # reading it says what is wrong
+            told = None  # reading it reports what is wrong
         if told is None or not stat.S_ISREG(told.st_mode):
             return None
         sizes.append(told.st_size)
@@ -196,7 +196,7 @@ def count_in_parts(library, found, jobs, measured, progress):
         for part, packed in zip(parts, given):
             one = Counted(*packed)
             counts = [old + new for old, new in zip(counts, one.counts)]
-            if counts[0] > MOST_FILES:  # 76: which file it is only one process can say
+            if counts[0] > MOST_FILES:  # 76: only one process can find which file it is
                 return count(library, found, measured=measured, progress=progress)
             if one.failed:
                 return Counted(counts, failed=one.failed)
@@ -213,7 +213,7 @@ def count_in_parts(library, found, jobs, measured, progress):
 
 
 def count_on(library, found, counts, lengths, begins, part, one, measured, progress):
-    """Counts on from the position at which a part was refused with 70, to the end of all inputs."""
+    """Continues from the position at which a part was refused with 70, to the end of all inputs."""
     at, skip = place_of(one.lengths, one.position)
     more = count(library, found[part.start + at:], counts, skip, measured, progress)
     return Counted(more.counts, more.number, begins + one.position + more.position, lengths + one.lengths[:at] + more.lengths, more.failed)
@@ -292,7 +292,7 @@ class Silent:
 
 
 class Progress(Silent):
-    """How far a run is, in one line on standard error, if that is a terminal."""
+    """The progress of a run, in one line on standard error, if that is a terminal."""
 
     PAUSE = 0.1  # seconds
 
@@ -321,7 +321,7 @@ def lines(counted, where=None, explain=False):
 
 
 def csv_lines(counted):
-    """A line of names and one of numbers. Where no refusal ended the report its two fields are empty."""
+    """A line of names and one of numbers. If no refusal ended the report, its two fields are empty."""
     yield ",".join((*Figures._fields, "refused", "position"))
     yield ",".join(map(str, (*counted.counts, *((counted.number, counted.position) if counted.number else ("", "")))))
 

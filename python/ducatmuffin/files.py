@@ -1,8 +1,8 @@
-"""Writes a file so that it is at each moment the old file or the whole new one.
+"""Writes a file so that at each moment it is the old file or the whole new one.
 
-The new file is written beside the old one, flushed to the device, and only then takes its name; then the folder is flushed. Where that
-fails, or a signal ends the command, the part that was written is removed. A link stays a link: the file that it names is replaced. What is
-not a regular file (a device, a FIFO) is written as it is.
+The new file is written beside the old one, flushed to the device, and only then takes its name; then the folder is flushed. If that
+fails, or a signal ends the command, the part that was written is removed. A link stays a link: the file that it names is replaced. A file that
+is not regular (a device, a FIFO) is written directly.
 """
 import errno
 import os
@@ -47,7 +47,7 @@ def replace(path, data, mode):
 
 
 def tidy():
-    """Removes what was written and is not to stay."""
+    """Removes files that were written and not renamed."""
     while PENDING:
         try:
             os.unlink(PENDING.pop())
@@ -69,7 +69,7 @@ def write_to(descriptor, data, mode=None, flush=False):
 
 
 def flush_folder(folder):
-    """Some file systems cannot flush a folder, and say so by EINVAL."""
+    """Some file systems cannot flush a folder, and report EINVAL."""
     descriptor = os.open(folder, os.O_RDONLY | os.O_DIRECTORY | os.O_CLOEXEC)
     try:
         os.fsync(descriptor)

@@ -49,13 +49,13 @@ class Finding:
 # ---- what an input's JSON says
 
 def place_of(told, name, scripts):
-    """The place of an object with `file`, `begin` and `end`; where there is no script of that number, the input."""
+    """The place of an object with `file`, `begin` and `end`; the input if there is no script of that number."""
     source = scripts.of(told["file"]) if "file" in told else None
     return Place(source.path, source, told["begin"], told["end"]) if source else Place(name)
 
 
 def placed(told, words, place):
-    """Words, which also name the bytes where there is no line."""
+    """Words, which also name the bytes if there is no line."""
     if place.line is None and "begin" in told:
         return f"{words} (source file {told['file']}, bytes {told['begin']} to {told['end']})"
     return words
@@ -87,7 +87,7 @@ def of_error(entry, told, name, scripts):
 
 
 def of_pair(entry, pair, name, scripts):
-    """A call that is refused, or is not judged."""
+    """A call that is refused or not judged."""
     call, def_ = pair["call"], pair["def"]
     notes = [note(told, words, name, scripts) for told, words in ((call, "the call"), (def_, "the def")) if "begin" in told]
     if "not_judged" in pair:
@@ -100,7 +100,7 @@ def of_pair(entry, pair, name, scripts):
 
 
 def of_namesakes(entry, pair, name, scripts):
-    """The namesakes of a pair that no expectation states; two that are exchanged are one. They are errors with --strict, else warnings."""
+    """The namesakes of a pair that no expectation states; two that are exchanged are one. They are errors with --strict, otherwise warnings."""
     done = set()
     for told in pair.get("namesakes", ()):
         if "expected" in told or told["node"] in done:
@@ -123,7 +123,7 @@ def of_expectations(entry, name, scripts):
 
 
 def of_failure(entry, name):
-    """Why an input is not read, has no table or another dialect than the books'; of scripts that are joined that of each."""
+    """Why an input is not read, has no table or another dialect than the books'; for joined scripts the reason of each."""
     rule = FAILED.get(entry["verdict"], UNREADABLE)
     parts = [part for part in entry.get("scripts", ()) if "failed" in part] or [{"failed": entry["failed"], **{
         key: entry[key] for key in ("line", "column") if key in entry}}]
@@ -226,7 +226,7 @@ def notification(one):
 
 
 def artifacts(entry, name, scripts):
-    """The files that were read, with their checksums; of scripts that a table's places are in, those of the bytes that were read."""
+    """The files that were read, with their checksums; also the scripts of a table's places, with those of the bytes that were read."""
     told = [(name_of(part) if "name" in part else name, part) for part in (entry, *entry.get("scripts", ())) if "sha256" in part]
     told += [(source.path, {"sha256": digest(source.bytes), "bytes": len(source.bytes)}) for source in (scripts.every, *scripts.by_file.values()) if source]
     known, made = {}, {"properties": {"table": entry["table"]}} if "table" in entry else {}
@@ -251,7 +251,7 @@ def rule(name):
 
 
 class Sarif:
-    """A run as one SARIF log. It is written at the end, as its parts are sorted by what they are."""
+    """A run as one SARIF log. It is written at the end, since its parts are grouped by type."""
 
     def __init__(self, out, front):
         self.out, self.front, self.results, self.notifications, self.artifacts = out, front, [], [], {}

@@ -1,4 +1,4 @@
-"""The parts of an f-string, as the crate's lexer gives them to fstring_from_parts in grammar_util.rs: a text is bytes with its escapes resolved, a field is
+"""The parts of an f-string, as the crate's lexer gives them to fstring_from_parts in grammar_util.rs. A text is bytes with its escapes resolved; a field is
 its conversion: "none", "str" or "repr". No part of this is proved.
 
     parts = parts_of(texts, conversions, quote, raw)     a text before, between and after the fields; empty ones are left out

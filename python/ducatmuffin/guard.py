@@ -1,6 +1,6 @@
 """Runs a command so that nothing of it outlives the process that wants it: python3 guard.py FD COMMAND...
 
-FD is the read end of a pipe whose write end that process alone holds. However it ends, by KILL too, the pipe then reads as ended, and this
+FD is the read end of a pipe whose write end only that process has. In whatever way it ends, also by KILL, the pipe then reads as ended, and this
 process ends the whole process group of the command. The command has standard input from /dev/null and its own temporary folder, which is
 removed. Standard output and error are what this process has, which is another pipe of the same process: so no file or pipe of the user's is
 held open here. The exit status is the command's, or 128 and the signal that ended it.
@@ -59,7 +59,7 @@ def main():
 
 
 def as_usual():
-    """The command hears signals as usual."""
+    """The command gets signals as usual."""
     for number in (signal.SIGINT, signal.SIGTERM, signal.SIGHUP, signal.SIGPIPE):
         signal.signal(number, signal.SIG_DFL)
 

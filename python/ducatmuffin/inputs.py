@@ -1,7 +1,7 @@
 """The inputs of a command: names, folders, lists of names, standard input; and how much of each is read.
 
 A folder is searched for table files (*.table) and scripts, sorted by name. Hidden folders and links to folders are skipped, and so is what
---exclude names and what is neither a file nor a link. A name that is given is read whatever it is: a device, a FIFO, a link.
+--exclude names and what is neither a file nor a link. A name on the command line is always read: a device, a FIFO, a link.
 """
 import fnmatch
 import os
@@ -10,7 +10,7 @@ import stat
 from .numbers import FILE_BYTES, NAME_BYTES, NODE_BYTES, NODES
 from .output import Failed
 
-TABLE_MOST = FILE_BYTES + 1  # one byte more than the largest table file has
+TABLE_MOST = FILE_BYTES + 1  # one byte more than the largest table file
 RECORDS_MOST = NODES * NODE_BYTES + 1
 NAMES_MOST = NAME_BYTES + 1
 SCRIPT_MOST = 2 ** 24  # bytes
@@ -21,7 +21,7 @@ NAMES = ("BUILD", "BUCK", "WORKSPACE")
 
 
 def is_script(name, as_script=()):
-    """Whether a name is that of a script: by its ending, or by the globs of --as-script. Any other is that of a table file."""
+    """Whether a name is that of a script: by its ending, or by the globs of --as-script. All others are table files."""
     last = os.path.basename(name)
     return last.endswith(ENDINGS) or last in NAMES or matches(last, name, as_script)
 
@@ -45,7 +45,7 @@ class Input:
 
 
 class Joined:
-    """Scripts that are taken as one table. Their source file numbers count from `first` on."""
+    """Scripts that become one table. Their source file numbers count from `first` on."""
 
     __slots__ = ("scripts", "name", "first")
     path = error = None
@@ -75,7 +75,7 @@ def read(one, most):
     descriptor = os.open(one.path, os.O_RDONLY | os.O_CLOEXEC | os.O_NOCTTY)
     try:
         data = os.read(descriptor, most)
-        # a short read is the end of a regular file; the empty read that says so is spared for others alone
+        # a short read is the end of a regular file; only other files need the empty read that shows it
         return data + read_from(descriptor, most - len(data)) if data else data
     finally:
         os.close(descriptor)
@@ -93,7 +93,7 @@ def read_from(descriptor, most):
 
 
 def read_and_count(one, most, each=None):
-    """As read, and how many bytes there are in all: the rest is read and counted. `each` is told all bytes."""
+    """As `read`, and the number of bytes in all: the rest is read and counted. `each` is called with all bytes."""
     if one.error is not None:
         raise one.error
     descriptor = 0 if one.path is None else os.open(one.path, os.O_RDONLY | os.O_CLOEXEC | os.O_NOCTTY)
@@ -115,7 +115,7 @@ def read_and_count(one, most, each=None):
 
 
 def read_script(one):
-    """A script. Raises OSError also where it is too long."""
+    """A script. Raises OSError also if it is too long."""
     data = read(one, SCRIPT_MOST + 1)
     if len(data) > SCRIPT_MOST:
         raise OSError(0, f"a script has at most {SCRIPT_MOST:,} bytes, and this one has more")
@@ -129,7 +129,7 @@ def reason(error):
 # ---- finding
 
 class Search:
-    """Collects inputs, and counts what is excluded. Without `scripts` a folder is searched for table files alone."""
+    """Collects inputs, and counts what is excluded. Without `scripts` a folder is searched only for table files."""
 
     def __init__(self, exclude=(), stdin_filename=None, as_script=(), scripts=True):
         self.exclude, self.stdin_filename, self.as_script, self.scripts = tuple(exclude), stdin_filename, tuple(as_script), scripts

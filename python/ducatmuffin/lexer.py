@@ -1,9 +1,9 @@
-"""The tokens of a Starlark script, as the crate's lexer.rs has them. No part of this is proved.
+"""The tokens of a Starlark script, as in the crate's lexer.rs. No part of this is proved.
 
     tokens(script) -> Tokens        script: bytes that are UTF-8
 
-All places are bytes of the script. The lexer does not stop at what is not Starlark: the last token is then an ERROR, and the parser raises it
-when it comes there, so that the first thing that is wrong is reported.
+All places are bytes of the script. The lexer does not raise an error for what is not Starlark: the last token is then an ERROR, and the parser raises it
+when it reaches it, so that the first error is reported.
 
 Kinds of tokens: a keyword or a symbol is its own kind ("def", "+="). The others are the names below.
 """
@@ -21,7 +21,7 @@ SYMBOLS = ("...", "//=", "<<=", ">>=", "->", "**", "//", "<<", ">>", "+=", "-=",
 WORDS = {word.encode(): word for word in KEYWORDS + SYMBOLS}
 MARK = b"\xef\xbb\xbf"  # a byte order mark: some editors put it before UTF-8
 
-# blanks and a token. A string is matched here if it is in one line and has no backslash; of others the quotes are matched.
+# blanks and a token. A string is matched here if it is in one line and has no backslash; otherwise only its quotes are matched.
 TOKEN = re.compile(rb"""
     [ ]*
     (?: (?P<symbol>[,)(=:.\]\[](?![=.0-9]))
@@ -38,7 +38,7 @@ TOKEN = re.compile(rb"""
 QUOTE = re.compile(rb"([a-z]*)(.+)")
 SPACES = re.compile(rb" *")
 BLANKS = re.compile(rb"[ \t\r]*")  # at the begin of a line
-# where the characters of a string, or the text of an f-string, must be looked at
+# where the characters of a string, or the text of an f-string, must be read one by one
 STOPS = {quote: re.compile(rb'[\\\n' + quote + rb']' if len(quote) == 1 else rb'\\|' + quote) for quote in (b'"', b"'", b'"""', b"'''")}
 TEXT_STOPS = {quote: re.compile(rb'[{}\\\n' + quote + rb']' if len(quote) == 1 else rb'[{}\\]|' + quote) for quote in STOPS}
 ESCAPE = re.compile(rb"\\(?:x[0-9a-fA-F]{2} | u([0-9a-fA-F]{4}) | U([0-9a-fA-F]{8}) | \r\n | ([0-7]{1,3}) | [^xuU\r])", re.VERBOSE | re.DOTALL)
@@ -165,7 +165,7 @@ class Lexer:
         return end
 
     def symbol(self, kind, begin, end):
-        """A symbol. `}` may be the end of a field of an f-string; then the text of the f-string goes on."""
+        """A symbol. `}` may be the end of a field of an f-string; then the text of the f-string continues."""
         if kind in ("(", "[", "{"):
             self.opened.append(begin)
         elif kind in (")", "]", "}"):

@@ -218,7 +218,7 @@ Part = Union[bytes, str]
 
 @dataclass(frozen=True)
 class Formatted:
-    """A format text, and whether the dialect has f-strings. Where it has none the notice is 62, and the text is made all the same."""
+    """A format text, and whether the dialect has f-strings. If it has none, the notice is 62, and the text is still made."""
     data: bytes
     enabled: bool
     accepted: ClassVar[bool] = True
@@ -263,7 +263,7 @@ class Changed:
     accepted: ClassVar[bool] = True
 
 
-# The 32 counts of figures, in the order of the C interface: mode_1 is PosOnly and so on (numbers.MODES), error_10 how often 10 is found
+# The 32 counts of figures, in the order of the C interface: mode_1 is PosOnly and so on (numbers.MODES), error_10 the number of errors 10
 Figures = NamedTuple("Figures", [(name, int) for name in (
     "files", "nodes", "lists", *(f"mode_{mode}" for mode in numbers.MODES), "calls_accepted", "calls_refused",
     *(f"error_{number}" for number in COUNTED_ERRORS))])
@@ -272,7 +272,7 @@ NO_FIGURES = Figures(*[0] * len(Figures._fields))
 
 @dataclass(frozen=True)
 class Report:
-    """The figures of files that are joined: their counts, and why and where the report ended, or None and None where it is whole. `position` is
+    """The figures of files that are joined: their counts, and why and where the report ended, or None and None if it is complete. `position` is
     that of the refused file's first byte."""
     figures: Figures
     number: Optional[int] = None
@@ -285,14 +285,14 @@ class Report:
 
 @dataclass(frozen=True)
 class Stepped:
-    """The figures with those of one file more, and the number of bytes that it takes: 0 where the window is empty."""
+    """The figures with those of one more file, and the number of bytes that it takes: 0 if the window is empty."""
     figures: Figures
     taken: int
     accepted: ClassVar[bool] = True
 
 
 class Buffers(threading.local):
-    """What a thread lends to the library: the words of the answer, and the largest buffers that a job needs."""
+    """The buffers of a thread: the words of the answer, and the largest buffers that a job needs."""
 
     def __init__(self):
         self.out = (WORD * numbers.OUT_WORDS)()
@@ -309,7 +309,7 @@ class Buffers(threading.local):
 
 
 def _bytes(data):
-    """Bytes that nobody changes while the library reads them."""
+    """Bytes that do not change while the library reads them."""
     if type(data) is bytes:
         return data
     if not isinstance(data, (bytes, bytearray, memoryview)):
@@ -318,7 +318,7 @@ def _bytes(data):
 
 
 def _node(node):
-    """A node's number as the library takes it; one that no size_t can hold is beyond every table."""
+    """A node's number for the library; one that does not fit into a size_t is beyond every table."""
     node = operator.index(node)
     if node < 0:
         raise ValueError(f"a node has no negative number: {node}")
@@ -392,7 +392,7 @@ def _refusal(number, out):
 
 
 def _errors(out, words, room, width):
-    """The errors that are stored: as many as there are, or as fit."""
+    """The stored errors: all of them, or those that fit."""
     total = out[0]
     if not total:
         return 0, ()
@@ -426,7 +426,7 @@ class Library:
         for name, arguments in FUNCTIONS.items():
             setattr(self, f"_{name}", self._function(name, arguments))
         self._compare_version()
-        # a library that was compiled without a proof says so by this symbol
+        # a library that was compiled without a proof has this symbol
         self.proved = not hasattr(self._library, "starlark_unproved")
         self._buffers = Buffers()
         self._checksum = None
@@ -570,7 +570,7 @@ class Library:
         return Rescued(ctypes.string_at(lent, size), statements, nodes, dropped, high << 32 | low)
 
     def read(self, data: Bytes, room: Optional[int] = None, names_room: Optional[int] = None) -> Union[Loaded, Refusal]:
-        """What a table file holds."""
+        """The contents of a table file."""
         data, own = _bytes(data), self._buffers
         room, buffer = _room(room, numbers.NODES * numbers.NODE_BYTES, 1)
         names_room, names_buffer = _room(names_room, numbers.NAME_BYTES, 1)
@@ -585,7 +585,7 @@ class Library:
         return Loaded(ctypes.string_at(lent, numbers.NODE_BYTES * nodes), ctypes.string_at(names_lent, names), dialect, edition, Edition(own.out[7]))
 
     def check_file(self, data: Bytes, room: Optional[int] = None) -> Union[Errors, Refusal]:
-        """The module pass over a table file, under the dialect that it holds."""
+        """The module pass over a table file, in its own dialect."""
         own = self._buffers
         if room is None and type(data) is bytes:
             room, words = FILE_WORDS, own.words
@@ -607,7 +607,7 @@ class Library:
 
     def fstring_write_words(self, words: Sequence[int], texts: Bytes, dialect: Optional[Bytes],
                             room: Optional[int] = None) -> Union[Formatted, Refusal]:
-        """The same of parts in words, as the C interface takes them: 0 and the length of a text, or 1, 2, 3 for none, str, repr and then 0."""
+        """The same for parts in words, as the C interface takes them: 0 and the length of a text, or 1, 2, 3 for none, str, repr and then 0."""
         texts, dialect, own = _bytes(texts), _bytes(dialect or b""), self._buffers
         if any(not 0 <= operator.index(word) < 2 ** 32 for word in words):
             raise ValueError("a word is a number from 0 to 4,294,967,295")
@@ -638,7 +638,7 @@ class Library:
         return Parts(tuple(parts))
 
     def book_lookup(self, zone_book: Bytes, line_book: Bytes, zone: int, setting: int) -> Union[Found, BookRefusal]:
-        """The dialect of a zone at a setting, by the zone book or, where it has no fitting entry, by the line book."""
+        """The dialect of a zone at a setting, by the zone book or, if it has no fitting entry, by the line book."""
         books, own = (_bytes(zone_book), _bytes(line_book)), self._buffers
         number = self._book_lookup(
             books[0], len(books[0]), books[1], len(books[1]), _word(zone, "zone"), _word(setting, "setting"), own.out_at)
@@ -648,7 +648,7 @@ class Library:
         return Found(books[book][at:at + 9], book, at)
 
     def book_add(self, zone_book: Bytes, line_book: Bytes, zone: int, setting: int, dialect: Bytes) -> Union[Changed, BookRefusal]:
-        """The two books with an entry more, in the line book for zone 0 and else in the zone book."""
+        """The two books with one more entry, in the line book for zone 0, otherwise in the zone book."""
         dialect = _bytes(dialect)
         return self._book_change(self._book_add, zone_book, line_book, zone, setting, dialect, len(dialect))
 
@@ -708,7 +708,7 @@ def _identity(path):
 
 
 def checkout():
-    """The folder of the checkout that this package is part of, or None where it is installed."""
+    """The folder of the checkout that this package is part of, or None if it is installed."""
     root = os.path.dirname(os.path.dirname(os.path.dirname(os.path.abspath(__file__))))
     return root if os.path.isfile(os.path.join(root, "crates.txt")) else None
 

@@ -1,6 +1,6 @@
 """What every command writes: lines on standard output and on standard error, and the JSON of a run (docs/JSON.md).
 
-Standard output is written by its descriptor. A write that fails ends the command: quietly where the reader is gone, else with a sentence.
+Standard output is written by its descriptor. A write that fails ends the command: quietly if the reader is gone, otherwise with a sentence.
 """
 import errno
 import os
@@ -14,7 +14,7 @@ CONTROL = re.compile("[\x00-\x1f\x7f-\x9f\u2028\u2029]")
 
 
 class OutputFailed(Exception):
-    """Standard output cannot be written. Quiet where the reader of a pipe is gone."""
+    """Standard output cannot be written. Quiet if the reader of a pipe is gone."""
 
     def __init__(self, error):
         super().__init__(error.strerror or str(error))
@@ -22,7 +22,7 @@ class OutputFailed(Exception):
 
 
 class Failed(Exception):
-    """The command cannot go on: a sentence for standard error, and the exit status."""
+    """The command cannot continue: a sentence for standard error, and the exit status."""
 
     def __init__(self, message, status=2):
         super().__init__(message)
@@ -30,7 +30,7 @@ class Failed(Exception):
 
 
 def visible(text):
-    """A name or a message in one line: a control character is shown as ?. The bytes of a name that is not UTF-8 stay as they are."""
+    """A name or a message in one line: a control character is shown as ?. The bytes of a name that is not UTF-8 are not changed."""
     return CONTROL.sub("?", text)
 
 
@@ -70,7 +70,7 @@ PLAIN = Paint()
 
 
 def paint_of(word, terminal, environment=os.environ):
-    """The colours that --color names: `auto` has them on a terminal, and NO_COLOR, unless it is empty, takes them away."""
+    """The colours that --color names: `auto` has them on a terminal, unless NO_COLOR is set and not empty."""
     dull = environment.get("NO_COLOR") or environment.get("TERM") == "dumb"
     return Paint(word == "always" or word == "auto" and terminal and not dull)
 
@@ -121,7 +121,7 @@ def tell(data):
 
 
 class Progress:
-    """How far a run over many files is, in one line on standard error, if that is a terminal."""
+    """The progress of a run over many files, in one line on standard error, if that is a terminal."""
 
     LEAST = 20  # files
     PAUSE = 0.1  # seconds
@@ -145,7 +145,7 @@ class Progress:
 # ---- JSON
 
 def named(name):
-    """A file's name in JSON: where its bytes are not UTF-8, also the bytes in hexadecimal digits."""
+    """A file's name in JSON; if its bytes are not UTF-8, also the bytes in hexadecimal digits."""
     held = os.fsencode(name)
     text = held.decode("utf-8", "replace")
     return {"name": text} if text.encode() == held else {"name": text, "name_bytes": held.hex()}

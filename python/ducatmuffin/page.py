@@ -1,7 +1,7 @@
 """The parts of the page that `ducat report` writes: a script's text with its errors marked, and a call drawn with lines to the parameters that it reaches.
 
-Everything from outside goes through `text` or `name`. The page has no script, loads nothing, and says so to the browser (POLICY). An attribute holds
-nothing from outside but aria-label, which is quoted and escaped.
+Everything from outside goes through `text` or `name`. The page has no script, loads nothing, and says so to the browser (POLICY). Only the attribute aria-label
+has text from outside, quoted and escaped.
 """
 import html
 import os
@@ -58,7 +58,7 @@ def name(path):
 
 
 def code(data):
-    """A part of a script's line. What is not printed, such as a mark that turns the direction of a text, is a ?; a tab stays."""
+    """A part of a script's line. A character that is not printed, such as a mark that changes the direction of a text, is a ?; a tab is kept."""
     return html.escape("\t".join(shown(part) for part in data.rstrip(b"\r").split(b"\t")))
 
 
@@ -71,7 +71,7 @@ def whole(title, parts):
 
 
 def table(caption, head, rows):
-    """A table of cells that are escaped already, as its caption is. A cell that begins with a digit is aligned to the right. A wide table scrolls separately."""
+    """A table of cells that are already escaped, as its caption is. A cell that begins with a digit is aligned to the right. A wide table scrolls separately."""
     cells = "".join(f'<th scope="col">{cell}</th>' for cell in head)
     lines = "".join("<tr>" + f'<th scope="row">{row[0]}</th>' + "".join(f"<td{' class=n' if str(cell)[:1].isdigit() else ''}>{cell}</td>" for cell in row[1:])
                     + "</tr>\n" for row in rows)
@@ -95,7 +95,7 @@ class Mark:
 
 
 def listing(source, marks, anchors, prefix):
-    """The lines of a script. `anchors` are the numbers of lines that are linked to."""
+    """The lines of a script. `anchors` are the numbers of lines that links lead to."""
     data, on = source.bytes, {}
     for mark in marks:
         last = source.line_at(max(mark.begin, min(mark.end, len(data)) - 1))

@@ -42,7 +42,7 @@ ONE_OR_TWO = "an index is one expression, two, or a slice"
 
 
 class TooDeep(Exception):
-    """A script that is nested more deeply than this parser follows, and where."""
+    """A script that is nested too deeply for this parser, and where."""
 
     def __init__(self, begin):
         super().__init__(begin)
@@ -51,7 +51,7 @@ class TooDeep(Exception):
 
 class Node:
     """A statement, expression, parameter or argument. A comprehension also has `targets`, those of its children that follow a `for`, and an f-string
-    `parts`, as the module `fstring` has them."""
+    `parts`, as in the module `fstring`."""
 
     __slots__ = ("kind", "begin", "end", "children", "detail", "name", "targets", "parts")
 
@@ -60,7 +60,7 @@ class Node:
 
 
 def parse(script):
-    """The top-level statements of a script, which is UTF-8. The collector of cycles is paused meanwhile: nodes have none, and it would visit all
+    """The top-level statements of a script, which is UTF-8. The garbage collector is paused meanwhile: nodes have no cycles, and it would visit all
     of them again and again, so that a line of a long script would cost more than twice one of a short script."""
     collects = gc.isenabled()
     gc.disable()

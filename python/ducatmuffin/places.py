@@ -31,7 +31,7 @@ class Source:
         return len(self.bytes) < begin or begin == len(self.bytes) < end
 
     def drawn(self, begin, end):
-        """The line of a span that is not beyond, a caret under each column of it, and what is not seen from that."""
+        """The line of a span inside the script, a caret under each column of it, and a note on what these do not show."""
         stop = self.bytes.find(b"\n", begin)
         stop = len(self.bytes) if stop < 0 else stop
         within, after = (self.bytes[a:b].decode("utf-8", "replace") for a, b in ((begin, min(end, stop)), (min(end, stop), stop)))
@@ -48,7 +48,7 @@ class Source:
 
 
 def cell(c, column):
-    """How a character is shown in a column, and how many columns that takes. A carriage return belongs to the line's end."""
+    """How a character is shown in a column, and the number of columns that it takes. A carriage return belongs to the line's end."""
     import unicodedata
     if c == "\r":
         return "", 0
@@ -63,7 +63,7 @@ def cell(c, column):
 
 
 def drawn(before, within, after):
-    """A line of three parts, and carets under the second. Of a long line only what is around the begin of the second is shown."""
+    """A line of three parts, and carets under the second. Of a long line only the part around the begin of the second is shown."""
     text, first = before + within + after, len(before)
     start = max(0, min(first - LONGEST // 3, len(text) - LONGEST))
     stop = min(len(text), start + LONGEST)

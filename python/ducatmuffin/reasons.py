@@ -9,7 +9,7 @@ from .numbers import KINDS, NAME_BYTES, NODE_BYTES, NODES, PARAMETERS, SWITCHES
 from .table import BLOCK, CONTENT, EDITIONS, LAST_FILE, LAST_POSITION, MOST_DETAIL, NAMED, RECORD, parts_of
 
 COUNTS = 4  # where block 0 has its two counts
-USED = (4, 13, 14)  # how many bytes block 0 uses: the counts, then a dialect, then an edition
+USED = (4, 13, 14)  # the number of bytes that block 0 uses: the counts, then a dialect, then an edition
 MOST_NAME = 255
 NAMED_ARGUMENT = 61
 STATEMENTS = 1
@@ -74,7 +74,7 @@ class Records:
 
 
 def unsound(table, names, node):
-    """Which rule the record at a node breaks; None where it breaks none."""
+    """Which rule the record at a node breaks; None if it breaks none."""
     records = Records(table, names)
     row = records.rows[node]
     return fields(row, len(names)) or subtree(records, node, row) or children(records, node, row) or source_file(records, node)
@@ -191,7 +191,7 @@ def taken(least, most):
 # ---- parameter lists
 
 def entries(table, names, node):
-    """How many entries the parameter list of a Def or Lambda has, marks counted."""
+    """The number of entries of the parameter list of a Def or Lambda, marks counted."""
     records = Records(table, names)
     return sum(class_of(records.rows[child][0]) == P for child in records.children(node))
 
@@ -215,7 +215,7 @@ def bad_block(library, data, number):
 
 
 class Why:
-    """What is known of a refusal beside its number and words: the block, or the node and its kind, and a sentence."""
+    """What is known about a refusal besides its number and words: the block, or the node and its kind, and a sentence."""
 
     def __init__(self, sentence=None, block=None, node=None, kind=None):
         self.sentence, self.block, self.node, self.kind = sentence, block, node, kind
@@ -224,7 +224,7 @@ class Why:
         """The text after the words of a refusal."""
         said = "" if self.block is None else f", block {self.block}"
         if self.node is not None:
-            known = f"kind {self.kind} {name_of(self.kind)}" if self.kind in KINDS else f"kind {self.kind}, which is none"
+            known = f"kind {self.kind} {name_of(self.kind)}" if self.kind in KINDS else f"kind {self.kind}, which is not a kind"
             said += f", node {self.node}, {known}"
         return said + (f": {self.sentence}" if self.sentence else "")
 
@@ -274,7 +274,7 @@ def left_over(data, whole):
 
 
 def bad_dialect(dialect, edition):
-    """What is wrong with a dialect's bytes or, where nothing is, with the edition."""
+    """What is wrong with a dialect's bytes or, if they are valid, with the edition."""
     valid = len(dialect) in (0, len(SWITCHES)) and all(byte <= (2 if name == "enable_types" else 1) for name, byte in zip(SWITCHES, dialect))
     if not valid or edition is None:
         return f"the bytes are {' '.join(map(str, dialect))}"

@@ -1,6 +1,6 @@
 """ducat report: one page of what `ducat check` and `ducat bind` find, for people who would rather look than read.
 
-The page has no script and loads nothing. What it says of a table is the library's answer; it counts only the files by dialect.
+The page has no script and loads nothing. What it says about a table is the library's answer; the page itself counts only the files by dialect.
 """
 from . import book, check, dialects, files, page, scripts
 from .bind import MODES, Places, Tree, Whole, counted
@@ -19,7 +19,7 @@ WORD = {ACCEPTED: "no errors", SYNTAX: "not Starlark", REFUSED: "refused", UNREA
 
 
 class Shown:
-    """One input: its JSON, as `ducat check` has it, and its part of the page. `calls` counts its pairs by what came of them."""
+    """One input: its JSON, as `ducat check` has it, and its part of the page. `calls` counts its pairs by their result."""
 
     def __init__(self, number, found, entry):
         self.key, self.found, self.entry, self.name, self.held = f"i{number}", found, entry, page.name(found.one.name), found.scripts or scripts.NONE
@@ -30,32 +30,32 @@ class Shown:
         return "{}:{}".format(told["line"], told["column"]) if "line" in told else "source file {file}, bytes {begin} to {end}".format(**told)
 
     def line(self, told):
-        """A place as a link to its line, where there is a script."""
+        """A place as a link to its line, if there is a script."""
         if "line" not in told:
             return self.place(told)
         self.anchors.setdefault(self.text_of(told["file"]), set()).add(told["line"])
         return f'<a href="#{self.prefix(told["file"])}{told["line"]}">{self.script(told)}{self.place(told)}</a>'
 
     def script(self, told):
-        """The name of a place's script, where there are several."""
+        """The name of a place's script, if there are several."""
         return page.name(self.held.of(told["file"]).path) + ":" if len(self.held.by_file) > 1 else ""
 
     def text_of(self, file):
-        """The number of the text that a source file number has: one script may be that of all."""
+        """The number of the text for a source file number: one script may be that of all."""
         return 0 if self.held.every else file
 
     def prefix(self, file):
         return f"{self.key}f{self.text_of(file)}l"
 
     def expect(self):
-        """What came of the expectations: for each its text, what came, and why it is not met."""
+        """The results of the expectations: for each its text, its result, and why it is not met."""
         for one in self.judged:
             why = [f"{self.line(unmet.told)} {page.text(unmet.words)}" if unmet.told else page.text(unmet.words) for unmet in one.unmet]
             self.expected.append((f"<code>{page.text(one.text)}</code>", page.text(one.came), "<br>".join(why)))
 
     @property
     def came(self):
-        """What came of it, in words."""
+        """The result, in words."""
         verdict = self.found.verdict
         words = [counted(self.found.total, "error") if verdict == ERRORS else WORD[verdict]]
         for key, said in (("refused", "{} refused"), ("exchanged", "{} with exchanged arguments"), ("namesake", "{} with a namesake"),
@@ -90,13 +90,13 @@ class Maker:
             self.figure(found)
             calls = self.calls_of(shown)
             shown.expect()
-            shown.part = f"{self.texts(shown)}<h4>Calls</h4>\n{calls}"  # what comes before says which lines are linked to
+            shown.part = f"{self.texts(shown)}<h4>Calls</h4>\n{calls}"  # the parts before determine which lines links lead to
         else:
             shown.judged = self.expectations.unmet(f"the input is {WORD[found.verdict]}")
             shown.expect()
             shown.part = self.texts(shown) if found.verdict == SYNTAX else ""
         self.status = max([self.status, shown.status, *(int(not one.met) for one in shown.judged)])
-        found.pieces = found.data = found.statements = None  # nothing of it is needed any more
+        found.pieces = found.data = found.statements = None  # it is no longer needed
 
     def figure(self, found):
         """Adds the figures of an input's tables: the library reads and counts the table file of each."""
@@ -236,7 +236,7 @@ def refused_part(inputs):
         known = [f"{key} {told[key]}" for key in ("block", "node") if key in told] + [told[key] for key in ("reason", "hint") if key in told]
         known.append(f"{one.entry['bytes']:,} bytes read, SHA-256 {one.entry['sha256']}")
         rows.append((one.name, told["number"], page.text(told["words"]), '<span class="sum">' + "<br>".join(map(page.text, known)) + "</span>"))
-    return page.table("Nothing else is known of these", ("table file", "refused", "meaning", "what is known"), rows) if rows else ""
+    return page.table("Nothing else is known about these", ("table file", "refused", "meaning", "what is known"), rows) if rows else ""
 
 
 def unread_part(inputs):
@@ -267,7 +267,7 @@ def figures_part(figures, uncounted):
 
 
 def dialects_part(inputs):
-    """How many inputs have each dialect, counted here."""
+    """The number of inputs with each dialect, counted here."""
     counts = {}
     for one in inputs:
         told = one.entry.get("dialect")
@@ -315,7 +315,7 @@ def cell(found):
 # ---- the command
 
 class Options:
-    """How a page is made. `zone` is there where the dialect is that of the books."""
+    """How a page is made. `zone` is set if the dialect is that of the books."""
 
     def __init__(self, out, dialect=None, scripts=None, books=None, zone=None, expectations=(), strict=False, edition=None):
         self.out, self.dialect, self.scripts, self.books, self.zone = out, dialect, scripts, books, zone

@@ -1,4 +1,4 @@
-"""ducat rescue: writes a sound table file of what can be kept of a damaged one."""
+"""ducat rescue: writes a sound table file from what can be kept of a damaged one."""
 from . import files, inputs, reasons
 from .bind import HEAD, LONGEST
 from .library import Refusal
@@ -25,7 +25,7 @@ class Statement:
         return self.file, self.begin, self.end, self.kind
 
     def text(self, scripts):
-        """Its name and line, where there is a script, else its kind and span."""
+        """Its name and line if there is a script, otherwise its kind and span."""
         source = scripts.of(self.file)
         if not source or source.is_beyond(self.begin, self.end):
             return f"{KINDS[self.kind][0]}, node {self.node}, file {self.file}, bytes {self.begin} to {self.end}"
@@ -50,14 +50,14 @@ class Statement:
 
 
 def statements(table):
-    """The statements of the outermost list; the one statement where the root is another."""
+    """The statements of the outermost list; the root itself if it is not a list."""
     records = decode(table)
     nodes = children(records, 0) if records[0].kind == KIND["Statements"] else [0]
     return [Statement(node, records[node]) for node in nodes]
 
 
 def in_scripts(scripts, kept):
-    """All statements of the scripts in the order of their numbers, where they can be read and begin with those that are kept; None otherwise. One script
+    """All statements of the scripts in the order of their numbers, if they can be read and begin with those that are kept; None otherwise. One script
     of all numbers has the number of the first statement."""
     from . import export
     held = [(kept[0].file if kept else 1, scripts.every)] if scripts.every else sorted(scripts.by_file.items())
@@ -81,7 +81,7 @@ class Told:
 
     @property
     def lost(self):
-        """The lost statements by the scripts; None where they do not say."""
+        """The lost statements by the scripts; None if the scripts do not show them."""
         return None if self.all is None else self.all[len(self.kept):]
 
     def lines(self):
@@ -137,7 +137,7 @@ def run(library, options, out, front):
 
 
 def refused(library, options, out, report, entry, data, refusal):
-    """A file of which nothing can be kept: what the reader says of it is the reason."""
+    """A file of which nothing can be kept: the reader's answer is the reason."""
     reader, why = library.read(data), ""
     told = {"number": refusal.number, "words": refusal.words}
     if type(reader) is Refusal:

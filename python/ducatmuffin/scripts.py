@@ -29,7 +29,7 @@ class Scripts:
         return self.every.path if self.every else ", ".join(source.path for _, source in sorted(self.by_file.items()))
 
     def note(self, file):
-        """Why a number has no script; None where it has one, or none is looked for."""
+        """Why a number has no script; None if it has one, or none is needed."""
         if self.of(file) or not self.lacking:
             return None
         return f"source file {file} has no script: {self.lacking.format(file)}"
@@ -70,7 +70,7 @@ def parsed(words):
 
 
 def read(found):
-    """The scripts of parsed words; None where there are none."""
+    """The scripts of parsed words; None if there are none."""
     if not found:
         return None
     if found[0][0] is None:
@@ -89,7 +89,7 @@ def source_of(path):
 # ---- beside a table file
 
 def beside(path, table):
-    """X.star beside X.table where the table has one number, else X.N.star for each number N."""
+    """X.star beside X.table if the table has one number, otherwise X.N.star for each number N."""
     if path is None or not path.endswith(ENDING):
         return NONE
     stem, numbers = path[:-len(ENDING)], files_of(table)
@@ -101,7 +101,7 @@ def beside(path, table):
 
 
 def found_at(path):
-    """The script at a path, where there is one that can be read."""
+    """The script at a path, if there is one that can be read."""
     if not os.path.isfile(path):
         return None
     try:

@@ -1,4 +1,4 @@
-"""INT, TERM and HUP end the command as they end others, after what it has begun is tidied."""
+"""INT, TERM and HUP end the command as they end others, after it has cleaned up."""
 import os
 import signal
 
@@ -15,12 +15,12 @@ class Stopped(BaseException):
 
 def stopped(number, frame):
     for one in ENDING:
-        signal.signal(one, signal.SIG_IGN)  # one is enough: what tidies is not ended by a second
+        signal.signal(one, signal.SIG_IGN)  # one is enough: a second one must not end the cleanup
     raise Stopped(number)
 
 
 def install():
-    """A signal that is ignored stays so, as nohup has it."""
+    """A signal that is ignored, as under nohup, stays ignored."""
     for number in ENDING:
         if signal.getsignal(number) is not signal.SIG_IGN:
             signal.signal(number, stopped)

@@ -19,7 +19,7 @@ Above the tree there may be such lines:
   cut: 700              only 700 bytes of the file are kept
 Above the tree and between its top-level statements there may also be lines
   file: 2               the source file number of the statements in the lines that follow; before the first such line it is 1
-A root Statements has the source file number 0. file=2 is that of one record alone, not of those below it.
+A root Statements has the source file number 0. file=2 is for one record only, not for those below it.
 
 A quote is the first such text within the parent's, after the child before it and after the name of a Normal or a Named, with which their quotes
 begin. `def f…break` goes from the first words to the first such last words after them. span=4-9 can be given in place of a quote.
@@ -65,7 +65,7 @@ class Record(NamedTuple):
 
 
 class TextError(ValueError):
-    """What is wrong with a text: its line (0 where there is none), and a message."""
+    """What is wrong with a text: its line (0 if there is none), and a message."""
 
     def __init__(self, line: int, message: str):
         super().__init__(f"{line}: {message}" if line else message)
@@ -73,7 +73,7 @@ class TextError(ValueError):
 
 
 class FileError(ValueError):
-    """A file whose blocks do not hold what its first block counts."""
+    """A file whose blocks have less than its first block states."""
 
 
 # ---- records
@@ -99,7 +99,7 @@ def kind_class(kind: int) -> Optional[str]:
 
 
 def name_of(record: Record, names) -> bytes:
-    """The name of a record; no bytes where it has none."""
+    """The name of a record; no bytes if it has none."""
     return bytes(names[record.name_start:record.name_start + record.name_length])
 
 
@@ -115,7 +115,7 @@ def children(records: List[Record], node: int) -> Iterator[int]:
 
 
 def parents(records: List[Record]) -> List[Optional[int]]:
-    """The parent of each node: the last node before it whose subtree it is in; None where there is none."""
+    """The parent of each node: the last node before it whose subtree it is in; None if there is none."""
     found, open_nodes = [], []
     for at, record in enumerate(records):
         while open_nodes and open_nodes[-1][1] <= at:
@@ -168,7 +168,7 @@ class Node:
 
 
 class Text(NamedTuple):
-    """What a text says: its table, names, dialect and edition, and what is then done to the file."""
+    """The content of a text: its table, names, dialect and edition, and the changes to the file."""
     table: bytes
     names: bytes
     dialect: Optional[bytes]
@@ -177,7 +177,7 @@ class Text(NamedTuple):
     cut: Optional[Tuple[str, int]]
 
     def file(self) -> bytes:
-        """The table file, changed and cut as the text says."""
+        """The table file, changed and cut as the text states."""
         made = file_of(self.table, self.names, self.dialect, self.edition)
         if self.change:
             made = _at_line(lambda text: _changed(made, text), *self.change)
@@ -289,7 +289,7 @@ def preorder(roots: List[Node]) -> Iterator[Node]:
 
 
 def _as_documented(node):
-    """Demands of a node that its name, detail and positions are as docs/FORMAT.md has them."""
+    """Requires that a node's name, detail and positions follow docs/FORMAT.md."""
     named = node.kind in NAMED
     if "kind" not in node.fields:
         demand(named or not node.name, f"the name {node.name.decode()}, and this kind has none", node)
@@ -359,7 +359,7 @@ def _sizes(nodes):
 
 
 def _same_name(node, given):
-    """Where the name bytes are given, a name says where it lies in them, and its word is the same."""
+    """If the name bytes are given, a name states its place in them, and its word is the same."""
     demand("name" in node.fields or not node.name, "a name without its place, name=START+LENGTH, and the name bytes are given", node)
     if node.name:
         start, length = node.fields["name"]
@@ -374,7 +374,7 @@ def _found(text, script, begin, end, node):
 
 
 def _spanned(node, script, begin, end):
-    """Gives a node the span of its quote, which is looked for in a part of the script."""
+    """Gives a node the span of its quote, which is searched in a part of the script."""
     if "span" not in node.fields:
         demand(node.quote, "it quotes nothing of the script", node)
         first, mark, last = node.quote.partition("…".encode())
@@ -401,12 +401,12 @@ def place(root: Node, script: bytes) -> None:
 
 
 def _behind(node):
-    """Where the first child of a node is looked for."""
+    """Where the search for the first child of a node begins."""
     return node.fields["span"][0] + len(node.name) * (node.kind in (KIND["Normal"], KIND["Named"]))
 
 
 def _lines_said(text):
-    """What the lines of a text say beside its tree, each with its number, the lines file:, and the tree, with an empty line for each of them."""
+    """The lines of a text besides its tree, each with its number, the lines file:, and the tree, with an empty line for each of them."""
     said, files, tree = {}, [], []
     for number, line in enumerate(text.replace("\r\n", "\n").split("\n"), 1):
         key, mark, value = line.partition(":")
@@ -456,7 +456,7 @@ def dialect_name(dialect: Optional[bytes]) -> str:
 
 
 def _edition(word, dialect, off):
-    """An edition, or where the rules are off any byte."""
+    """An edition, or any byte if the rules are off."""
     edition, = _numbers(word, None, [255])
     demand(off or edition in EDITIONS, f"{edition} is not an edition: 1 or 2")
     demand(dialect, "an edition, and no dialect: a file without a dialect has none")
@@ -498,7 +498,7 @@ def _changed(made, text):
 
 
 def read_text(text: str, script: Optional[Callable[[str], bytes]] = None) -> Text:
-    """What a text says. `script` reads the script that a text names."""
+    """The content of a text. `script` reads the script that a text names."""
     said, files, tree = _lines_said(text)
     off = "rules" in said and _at_line(_is_off, *said["rules"])
     roots = trees(tree)
@@ -527,7 +527,7 @@ def parse_text(text: str, script: Optional[Callable[[str], bytes]] = None) -> Tu
 
 
 def _nested(records):
-    """Each record with its level and the number of brackets that close after it. What has no size that fits is a leaf; the root has all."""
+    """Each record with its level and the number of brackets that close after it. A record whose size does not fit is a leaf; the root has all."""
     ends = [len(records)]
     for at, record in enumerate(records):
         while len(ends) > 1 and ends[-1] <= at:

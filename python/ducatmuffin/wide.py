@@ -119,7 +119,7 @@ class Wide:
             yield call, [self.pair(call, def_) for def_ in self.defs.get(call.name, [])]
 
     def trees(self):
-        """The nodes of each statement, for what looks at all of them."""
+        """The nodes of each statement, for code that visits all of them."""
         for statement in self.statements:
             number, above = {id(node): at for at, node in enumerate(statement.nodes)}, [None] * len(statement.nodes)
             for at, node in enumerate(statement.nodes):

@@ -1,7 +1,7 @@
 """Several processes for `ducat check --jobs N` and `ducat figures --jobs N`, with the answers in the order of the inputs.
 
 Process k takes the inputs k, k + N, k + 2 N, ... and writes its answers to its own pipe, from which they are read in turn. A process has
-none of the command's own descriptors, and ends with the command, also where that ends by KILL.
+none of the command's own descriptors, and ends with the command, even if that is ended by KILL.
 """
 import marshal
 import os
@@ -42,10 +42,10 @@ def shared(checker, found, jobs):
 
 
 def results(function, items, jobs):
-    """What a function gives for each item, in their order: a generator. It must be something that marshal can write."""
+    """The result of a function for each item, in their order: a generator. marshal must be able to write the results."""
     pipes, children = [], []
     try:
-        # a signal between a fork and the note of it would leave a process behind
+        # a signal between a fork and its record would leave a process behind
         before = signal.pthread_sigmask(signal.SIG_BLOCK, ENDING)
         try:
             for first in range(jobs):
@@ -86,7 +86,7 @@ def start(function, items, pipes, children):
 
 
 def end_with(parent):
-    """Ends this process where its parent ends."""
+    """Ends this process when its parent ends."""
     if sys.platform.startswith("linux"):
         import ctypes
         ctypes.CDLL(None).prctl(DEATH_SIGNAL, signal.SIGKILL, 0, 0, 0)

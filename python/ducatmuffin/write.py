@@ -35,7 +35,7 @@ def refused(options, out, front, entries, refusal, why):
 
 
 def written(options, out, front, entries, data, more):
-    """Writes the file that was made, and says so."""
+    """Writes the file that was made, and reports it."""
     try:
         files.write(options.out, data)
     except OSError as error:

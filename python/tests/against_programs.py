@@ -36,7 +36,7 @@ def loader():
 
 
 def damaged(many):
-    """Files of samples with bytes changed, cut, added or exchanged; in half of them the sums of blocks are made anew."""
+    """Files of samples with bytes changed, cut, added or exchanged; in half of them the sums of blocks are updated."""
     draw = random.Random(31)
     whole = [support.sample(f"{name}.table") for name in support.samples(".table")]
     for _ in range(many):
@@ -86,7 +86,7 @@ def joins(quick):
 
 
 def checked(paths):
-    """What one run of ducat prints of many files, and for each its lines."""
+    """What one run of ducat prints for many files, and the lines of each."""
     ran = forked(("check", "--module", "--files-from", "-", "-0"), support.ROOT, b"\0".join(map(os.fsencode, paths)))
     answers, wanted = {}, set(paths)
     for line in ran.out.splitlines(True)[:-1]:

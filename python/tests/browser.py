@@ -1,7 +1,7 @@
 """The page of `ducat report` in a real browser: headless Chromium, driven by chromedriver over HTTP.
 
     python3 -I -S python/tests/browser.py              the step `page` of ./test
-    python3 -I -S python/tests/browser.py --write      the same, and docs/report.png is made anew
+    python3 -I -S python/tests/browser.py --write      the same, and writes docs/report.png
 
 A page of 500 scripts loads in under a second, by the browser's own load event (on a busy machine: by its processor time). A page of samples is laid out light and dark, 400 and 1,600 pixels
 wide: it is not wider than the window, its policy keeps a script from running, the keyboard opens what is folded, and its contrasts suffice. Its pictures
@@ -28,7 +28,7 @@ DRIVER, BROWSER = "chromedriver", "chromium"
 SCRIPTS, LINES, MOST = 500, 85, 1000  # milliseconds
 PICTURE = os.path.join(support.ROOT, "docs", "report.png")
 ROOM = os.path.join(support.ROOT, "target", "page")
-# the calls at the end of each script: two for each of its defs. Real scripts have some 1.5 calls that are bound; these have eight and more
+# the calls at the end of each script: two for each of its defs. Real scripts have some 1.5 bound calls; these have eight and more
 CALLS = "order_{0}(trains, tracks, gap=60)\norder_{0}({1})\n"
 # the time of the load event, or 0 before it
 ENDED = "const e = performance.getEntriesByType('navigation')[0]; return e.loadEventEnd ? e.loadEventEnd - e.startTime : 0"
@@ -103,7 +103,7 @@ class Browser:
         self.do("url", url="file://" + path)
 
     def picture(self, of="document.documentElement"):
-        """A part of the page as a PNG, no more than 6,000 pixels of it."""
+        """A part of the page as a PNG, at most 6,000 pixels of it."""
         box = self.run(f"const b = {of}.getBoundingClientRect(); return [b.x, b.y + scrollY, b.width, Math.min(b.height, 6000)]")
         made = self.protocol("Page.captureScreenshot", format="png", captureBeyondViewport=True, clip=dict(zip(("x", "y", "width", "height"), box), scale=1))
         return base64.b64decode(made["data"])
@@ -152,8 +152,8 @@ def many(room):
 
 
 def loads(browser, path, room, faults):
-    """The time of the browser's load event, the least of three, or of six where none is short enough. Other work of the machine is not the page's: where
-    more is waiting to run than there are processors, the processor time of the browser's process for the page is judged in place of it."""
+    """The time of the browser's load event, the least of three, or of six where none is short enough. Other work of the machine does not count: if
+    more processes wait to run than there are processors, the processor time of the browser's process for the page is judged instead."""
     times, used, blank = [], [], os.path.join(room, "blank.html")
     put(blank, b"<!DOCTYPE html><title>blank</title>")
     browser.protocol("Performance.enable")

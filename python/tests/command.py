@@ -1,4 +1,4 @@
-"""What the tests of commands share: a run of `ducat` in a process of its own, and a folder for what is made.
+"""Shared by the tests of commands: a run of `ducat` in its own process, and a folder for what is made.
 
 Most runs fork this process, so that the library is loaded once; `real` starts ./ducat itself.
 """
@@ -58,7 +58,7 @@ def command(*words):
 
 
 def real(*words, cwd=support.ROOT, **more):
-    """A run of ./ducat itself. Where the tests are given a library that is not proved, what the command says of that is left out."""
+    """A run of ./ducat itself. If the tests use a library that is not proved, what the command says about that is left out."""
     ran = subprocess.run(command(*words), cwd=cwd, stdout=subprocess.PIPE, stderr=subprocess.PIPE, stdin=more.pop("stdin", subprocess.DEVNULL),
                          **more)
     return Ran(ran.returncode, ran.stdout.decode("utf-8", "surrogateescape"), without_notice(ran.stderr).decode("utf-8", "surrogateescape"))
@@ -71,7 +71,7 @@ def without_notice(err):
 
 
 class CommandTest(unittest.TestCase):
-    """A test with a folder of its own. Names of samples are relative to the repository, which is the current folder of a run."""
+    """A test with its own folder. Names of samples are relative to the repository, which is the current folder of a run."""
 
     maxDiff = None
 
@@ -94,14 +94,14 @@ class CommandTest(unittest.TestCase):
             return file.read()
 
     def made(self, name, text, script=None):
-        """A table file of a text."""
+        """A table file made from a text."""
         return self.put(name, table.read_text(text, lambda _: script).file())
 
     def run_ducat(self, *words, input=b"", cwd=support.ROOT, stdin=None):
         return forked(words, cwd, input, stdin)
 
     def says(self, status, out, err, *words, **more):
-        """A run: its status, what it prints, and what it says on standard error; None is anything."""
+        """A run: its status, what it prints, and what it writes to standard error; None allows anything."""
         ran = self.run_ducat(*words, **more)
         self.assertEqual((ran.status, ran.out if out is not None else None), (status, out), f"{words}: {ran.err}")
         if err is not None:

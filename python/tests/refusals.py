@@ -1,10 +1,10 @@
-"""One case of each number: the request that gives it, and what Python, Rust and C make of the answer.
+"""One case of each number: the request that gives it, and how Python, Rust and C report the answer.
 
-refusals.py --write    writes bindings/refusals.txt, the requests as C and Rust read them, and bindings/refusals, what Python and Rust print of each.
-                       Run it only where a number is added or its words are changed on purpose: the record is what the words are held to
+refusals.py --write    writes bindings/refusals.txt, the requests as C and Rust read them, and bindings/refusals, what Python and Rust print for each.
+                       Run it only if a number is added or its words are changed on purpose: the words are compared with the record
 
-A request is a line: the number, the job, and the job's arguments in the header's order. `x:HEX` are bytes, with `*N` so many times; `b:N` and `w:N`
-are N bytes and words that are lent, each 9; `p:A,B` are words; `c:N` are counts of figures of which the first is N; anything else is a number.
+A request is a line: the number, the job, and the job's arguments in the header's order. `x:HEX` are bytes, with `*N` repeated N times; `b:N` and `w:N`
+are buffers of N bytes and words, each 9; `p:A,B` are words; `c:N` are counts of figures of which the first is N; anything else is a number.
 """
 import os
 import sys
@@ -88,7 +88,7 @@ CASES = [
 
 
 def summed(block):
-    """A block with its sum made right."""
+    """A block with the right sum."""
     return block[:508] + (sum(at * byte for at, byte in enumerate(block[:508], 1)) % 2 ** 32).to_bytes(4, "little")
 
 
@@ -99,7 +99,7 @@ def book(entries):
 
 
 def file(text, at=None, value=None):
-    """A table file, of which a byte may be changed and the sum of its block made right; `more: N` are bytes after it."""
+    """A table file, of which a byte may be changed and the sum of its block updated; `more: N` are bytes after it."""
     more, _, rest = text.partition("\n") if text.startswith("more: ") else ("", "", text)
     data = table.read_text(rest).file()
     if at is not None:
@@ -131,7 +131,7 @@ def arguments(case):
 
 
 def written(kind, value):
-    """An argument as a request has it."""
+    """An argument as it is in a request."""
     if kind == "x":
         same = len(set(value)) == 1 and len(value) > 100
         return f"x:{value[:1].hex()}*{len(value)}" if same else f"x:{value.hex()}"
@@ -153,7 +153,7 @@ def answer(case):
 
 
 def line(case):
-    """What is printed of a case: the number, its name and words, and what it carries."""
+    """What is printed for a case: the number, its name and words, and what it carries."""
     got = answer(case)
     if isinstance(got, made.Errors):
         number, file_number, begin, end, _ = got.errors[0]

@@ -55,7 +55,7 @@ int main(int count, char **names) {
 
 
 def least(words, cwd, runs=RUNS):
-    """The least processor time of several runs, and what the last has printed."""
+    """The least processor time of several runs, and the output of the last."""
     best, out = None, b""
     for _ in range(runs):
         before = resource.getrusage(resource.RUSAGE_CHILDREN)
@@ -82,7 +82,7 @@ def main():
         library = support.library().path
         subprocess.run([compiler, "-O2", "-I", os.path.join(support.ROOT, "include"), "loop.c", library,
                         f"-Wl,-rpath,{os.path.dirname(library)}", "-o", "loop"], cwd=room, check=True)
-        # the program looks for the library by its SONAME
+        # the program finds the library by its SONAME
         named = subprocess.run([os.path.join(room, "loop")], stderr=subprocess.PIPE)
         if named.returncode:
             from ducatmuffin.library import SONAME

@@ -3,8 +3,8 @@
     python3 -I -S python/tests/speed_scripts.py
 
 `ducat check` of 500 scripts of 85 lines takes at most 1.2 times as long as flake8 on the same files. The parser's cost is linear: a line of a script
-of 100,000 lines takes at most twice as long as one of 1,000 lines, also where the script is cut into tables. What is short is run several times, and the
-least counts. Exit status: 0 all hold; 1 one does not; 3 the others hold, and flake8 is missing.
+of 100,000 lines takes at most twice as long as one of 1,000 lines, also if the script is cut into tables. Short runs are repeated, and the
+least time counts. Exit status: 0 all hold; 1 one does not; 3 the others hold, and flake8 is missing.
 """
 import os
 import shutil
@@ -47,7 +47,7 @@ def of_lines(lines):
 
 
 def timed(work, lines, times):
-    """The least processor time of the given number of runs, for a line, and what the last gives."""
+    """The least processor time of the given number of runs, for a line, and the result of the last."""
     best = None
     for _ in range(times):
         began = time.process_time()

@@ -1,6 +1,6 @@
-"""What the tests share: the package on the path, the repository's folder, the library.
+"""Shared by the tests: the package on the path, the repository's folder, the library.
 
-The tests use target/native, which is proved. DUCAT_TEST_LIBRARY names another file, for work on the package where nothing is proved yet.
+The tests use target/native, which is proved. DUCAT_TEST_LIBRARY names another file, for work on the package when nothing is proved yet.
 """
 import os
 import sys

@@ -1,4 +1,4 @@
-"""ducat check --against DIALECT: what a move takes out and leaves, moves that are no opening, lists that are not tied, and every form of output."""
+"""ducat check --against DIALECT: what a move removes and leaves, moves that are not an opening, lists that are not tied, and every form of output."""
 import itertools
 import json
 import unittest
@@ -12,11 +12,11 @@ OTHERS = "other jobs, in the new dialect:\n"
 NOT_TIED = "enable_top_level_stmt opens and there were errors, so no theorem relates the two lists"
 ALL_NINE = ("enable_def, enable_lambda, enable_load, enable_keyword_only_arguments, enable_positional_only_arguments, enable_types, "
             "enable_load_reexport, enable_top_level_stmt, enable_f_strings")
-# each of the six errors that an opening may take out, a 55 that stays, and a call that only another job refuses
+# each of the six errors that an opening may remove, a 55 that stays, and a call that only another job refuses
 MANY = """dialect: {}
 (Statements (Def (Normal a) (Slash) (NoArgs) (Normal b) (OtherSimple))
  (Load) (OtherSimple (Lambda (Int))) (OtherSimple (Ellipsis)) (Break))"""
-OUT = {"50": 3, "51": 4, "52": 0, "59": 2, "60": 5, "61": 1}  # the number that each switch takes out, and its place in the row
+OUT = {"50": 3, "51": 4, "52": 0, "59": 2, "60": 5, "61": 1}  # the number that each switch removes, and its place in the row
 EVERY = [bytes(row) for row in itertools.product(*((0, 1, 2) if at == 5 else (0, 1) for at in range(9)))]
 
 
@@ -25,7 +25,7 @@ def digits(row):
 
 
 def body(opens, errors, taken, left, others=(), total=None):
-    """What is printed of a move."""
+    """What is printed for a move."""
     lines = "".join(f"{error}\n" for error in errors)
     return f"opens {opens}\n{PASS}{lines}taken out {taken}, left {left}\n{OTHERS}" + "".join(f"{error}\n" for error in others) \
         + f"other errors {len(others) if total is None else total}\n"
@@ -117,7 +117,7 @@ class Others(CommandTest):
         self.assertRegex(ran.out, r"in the new dialect:\n20 1 \d+ \d+\nother errors 1\n$")
 
     def test_a_list_of_parameters_that_the_module_pass_does_not_reach(self):
-        """Below a top-level `if` that the dialect does not permit the module pass looks at no def; the parameter job does."""
+        """Below a top-level `if` that the dialect does not permit, the module pass checks no def; the parameter job does."""
         path = self.made("below.table", "dialect: Standard\n(If (Int) (Def (Normal a) (Normal a) (OtherSimple)))")
         ran = self.run_ducat("check", "--against", "standard", path)
         self.assertIn("taken out 0, left ", ran.out)
@@ -220,7 +220,7 @@ class Lists(unittest.TestCase):
                 against.lacking(first, second)
 
     def test_both_clauses_on_every_pair_of_dialects_of_one_module(self):
-        """39,366 pairs: the library's lists are as the theorems say."""
+        """39,366 pairs: the library's lists agree with the theorems."""
         loaded = self.table(MANY.format("000000000").partition("\n")[2])
         lists = {row: [against.place(error) for error in support.library().module(*loaded, row).errors] for row in EVERY}
         pairs = 0

@@ -125,7 +125,7 @@ class Commands(BookTest):
         self.says(2, None, "", "book", "lookup", "--explain", "samples/damaged.book", LINE, "7", "4")
 
     def sealed(self, data, at, value):
-        """A book with a byte of block 0 changed, and its sum put right."""
+        """A book with a byte of block 0 changed, and its sum updated."""
         block = bytearray(data[:508])
         block[at] = value
         return bytes(block) + sum((n + 1) * byte for n, byte in enumerate(block)).to_bytes(4, "little") + data[512:]
@@ -247,7 +247,7 @@ class AtOnce(BookTest):
             self.put("zones", old)
             began = time.monotonic()
             running = self.start("book", "add", self.at("zones"), self.at("line"), "9", "1", STANDARD)
-            if number % 8 == 0:  # a run to its end, so that the moments of the next ones fit how busy the machine is
+            if number % 8 == 0:  # a complete run, so that the moments of the next ones fit the load of the machine
                 running.wait()
                 longest = time.monotonic() - began
             until = began + draw.uniform(0, 1.2 * longest)

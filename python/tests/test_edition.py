@@ -58,7 +58,7 @@ class Scripts(EditionTest):
         self.assertEqual(self.numbers(path), ([44] * 900, 1))
 
     def test_a_folder_and_a_list(self):
-        """Of what is found, scripts are read by --edition and table files by their own."""
+        """Of the files found, scripts are read by --edition and table files by their own edition."""
         os.mkdir(self.at("d"))
         self.put("d/x.star", SCRIPT)
         self.put("d/y.table", self.read(os.path.basename(self.table(None))))
@@ -179,7 +179,7 @@ class Carried(EditionTest):
         self.says(0, "written 1536\n", None, "table", "--config", self.at("ducat.ini"), "--edition", "2", self.script(), "-o", self.at("made.table"))
 
     def test_compare(self):
-        """The edition is compared where --edition gives one."""
+        """The edition is compared if --edition gives one."""
         path = self.script()
         for edition in (None, 1, 2):
             file = self.table(edition)
@@ -194,7 +194,7 @@ class Carried(EditionTest):
                     self.assertEqual(told["difference"]["fields"]["edition"]["script"], {"number": given, "given": True})
 
     def test_rescue(self):
-        """A whole file is kept as it is, and of a cut one the edition is."""
+        """A whole file is kept unchanged, and a cut one keeps its edition."""
         for edition in (None, 1, 2):
             path = self.table(edition)
             self.says(0, None, "", "rescue", path, "-o", self.at("kept.table"))
@@ -207,7 +207,7 @@ class Carried(EditionTest):
             self.assertEqual(self.read("again.table"), self.read("kept.table"))
 
     def test_bind(self):
-        """A binding does not look at the edition."""
+        """A binding does not use the edition."""
         made = table.read_text(support.sample("take.txt").decode(), support.sample)
         said = set()
         for edition in (None, 1, 2):

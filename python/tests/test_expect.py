@@ -15,7 +15,7 @@ DEF = "def order(trains, tracks):\n  return trains\n"
 
 class ExpectTest(CommandTest):
     def judged(self, status, script, *expectations, words=(), name="a.star"):
-        """The lines that are printed of expectations over a script."""
+        """The lines printed for expectations over a script."""
         path = self.put(name, script) if isinstance(script, (str, bytes)) else None
         files = [path] if path else list(script)
         ran = self.run_ducat("bind", *files, *(word for one in expectations for word in ("--expect", one)), *words)
@@ -282,7 +282,7 @@ class Model(unittest.TestCase):
 
     @staticmethod
     def reached(parameters, names, star, more, arguments):
-        """For each argument the parameter that it reaches, by a call of Python; None where Python refuses the call."""
+        """For each argument the parameter that it reaches, by a call of Python; None if Python refuses the call."""
         held = {}
         exec(f"def f({parameters}): return locals()", held)
         try:

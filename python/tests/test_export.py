@@ -1,6 +1,6 @@
 """The module `export`: the samples' scripts, each kind of record, each syntax error with its place, the limits, and that every table is sound.
 
-The 57 trees, 99 refusals and 7 limits are those of the exporter by Python's own parser that was here before. Three of the refusals are now tables,
+The 57 trees, 99 refusals and 7 limits are those of the previous exporter, which used Python's own parser. Three of the refusals are now tables,
 which the checker judges; three are now limits.
 """
 import ast
@@ -18,8 +18,8 @@ from ducatmuffin.parser import FIELDS, joined
 # a sample whose text is not a tree of its script, so that it can be refused with 3
 UNSOUND_SAMPLE = "unsound"
 
-# A script, and its tree in the text form. What quotes nothing is the whole script at the root, else its own name, or what
-# the expression below it quotes.
+# A script, and its tree in the text form. A node without a quote has the whole script at the root, otherwise its own name, or the quote of
+# the expression below it.
 TREES = [
     ("pass", "(OtherSimple)"),
     ("x", "(OtherSimple (Identifier x))"),
@@ -98,7 +98,7 @@ TREES = [
      " (String `\"}\"`))))"),
     ('f"""\n{a[\n"}"]}{ {1: 2} }{f\'{b}\'}"""', '(OtherSimple (FString span=0-35 (Index `a[\n"}"]` (Identifier a) (String `"}"`))'
      " (Dict `{1: 2}` (Int `1`) (Int `2`)) (FString `f'{b}'` (Identifier b))))"),
-    # bytes that are no ASCII, ends of lines, blanks
+    # bytes that are not ASCII, ends of lines, blanks
     ("x = 'é', y", "(Assign (Identifier x) (Tuple `'é', y` (String `'é'`) (Identifier y)))"),
     ("# é\r\nif a:\r\n  b\r\n  c",
      "(If `if…  c` (Identifier a) (Statements `b\r\n  c` (OtherSimple (Identifier b)) (OtherSimple (Identifier c))))"),
@@ -219,7 +219,7 @@ def calls(depth):
     return "f(" * depth + "a" + ")" * depth
 
 
-# the most calls in each other: a statement, and a call and its argument for each, and the innermost expression
+# the largest number of nested calls: a statement, and a call and its argument for each, and the innermost expression
 MOST_CALLS = (numbers.DEPTH - 2) // (1 + tables.weight(numbers.KIND["Positional"]))
 LETTERS = [f"n{number:02}".ljust(126, "_") for number in range(64)]
 # the largest script within a limit, the smallest beyond it, where that is refused, and the message
@@ -235,7 +235,7 @@ LIMITS = [
 
 
 def answered(source):
-    """What is made of a script: its table and names, or the error."""
+    """The result for a script: its table and names, or the error."""
     try:
         return export.export(source.encode() if isinstance(source, str) else source, "s.star", None), None
     except export.ScriptError as error:
@@ -447,7 +447,7 @@ def packed(functions):
 
 
 def text_is_right(node, text):
-    """Whether the text of a record is right as far as its kind tells."""
+    """Whether the text of a record is right, as far as its kind shows."""
     expected = {
         "Identifier": text == node.name, "Normal": text.startswith(node.name), "Named": text.startswith(node.name), "Dot": text.endswith(node.name),
         "NoArgs": text == b"*", "Slash": text == b"/", "ArgsParam": text[:1] == b"*", "KwArgsParam": text[:2] == b"**",

@@ -16,7 +16,7 @@ LINES = 32
 
 
 def with_byte(data, at, byte, sealed=True):
-    """A file with a byte changed, and the sum of its block made right."""
+    """A file with a byte changed, and the sum of its block updated."""
     first = at - at % 512
     block = bytearray(data[first:first + 508])
     block[at - first] = byte
@@ -25,7 +25,7 @@ def with_byte(data, at, byte, sealed=True):
 
 
 def length_of(data):
-    """The length that the header of the file at the front asks for."""
+    """The length that the header of the first file gives."""
     nodes, names = (int.from_bytes(data[at:at + 2], "little") for at in (4, 6))
     return 512 * (1 + -(-names // 504) + -(-nodes // 21))
 
@@ -54,7 +54,7 @@ def modelled(data):
     sums, at = list(NO_FIGURES), 0
     while at < len(data):
         rest = data[at:]
-        # a header that is bad asks for nothing that counts: the reader says why
+        # the length in a bad header does not count: the reader reports why
         length = length_of(rest) if len(rest) >= 512 else len(rest)
         answer = support.library().read(rest[:max(512, length)])
         if type(answer) is Refusal:
@@ -65,7 +65,7 @@ def modelled(data):
 
 
 def text_of(report):
-    """What the command prints of a report."""
+    """What the command prints for a report."""
     lines = [f"{label} {count}" for label, count in zip(figures.LABELS, report.figures)]
     return "".join(line + "\n" for line in [*lines, *([] if report.whole else [f"refused {report.number} {report.position}"])])
 
@@ -109,7 +109,7 @@ class Counts(CommandTest):
         for number, bad in refused_files().items():
             for before in range(3):
                 data = b"".join(GOOD[:before])
-                # what is cut off is whole again where the next file's bytes fill it up, so the cut one is last
+                # a cut file is whole again if the next file's bytes fill it up, so the cut one is last
                 after = b"" if number == 70 else GOOD[0]
                 self.assertEqual(self.counted(data + bad + after), Report(modelled(data).figures, number, len(data)))
 
@@ -198,7 +198,7 @@ class Command(CommandTest):
         self.assertIn(f"error 55 2: {WORDS[55]}", out)
 
     def test_the_place_in_a_file_that_begins_before(self):
-        """A refused file that begins in one name and goes on in the next."""
+        """A refused file that begins in one name and continues in the next."""
         bad = refused_files()[72]
         names = self.files(GOOD[0] + bad[:600], bad[600:] + GOOD[1])
         for jobs in ("1", "2"):
@@ -299,7 +299,7 @@ class Jobs(CommandTest):
             self.same([data[first:last] for first, last in zip([0, *cuts], [*cuts, len(data)])])
 
     def test_too_many_files(self):
-        """Where the parts have more files than are counted, one process reads all."""
+        """If the parts have more files than can be counted, one process reads all."""
         names, told = [self.put(f"{at}.table", BREAK) for at in range(3)], []
         library = support.library()
 
@@ -333,7 +333,7 @@ class Add(CommandTest):
         self.assertEqual((told["bytes"], told["refused"]["position"], told["added"]), (len(b"".join(GOOD[:3])) + 1, len(b"".join(GOOD[:3])), True))
 
     def notices(self, status, out, reports, *words):
-        """A run over reports that a library made which may not be proved: then it says so of each."""
+        """A run over reports of a library that may not be proved: then it reports that for each."""
         said = "" if support.library().proved else "".join(f"ducat: {report}: the library that made this report is not proved\n" for report in reports)
         self.says(status, out, said, *words)
 

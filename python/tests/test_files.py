@@ -113,7 +113,7 @@ class Write(CommandTest):
         self.alone()
 
     def test_two_at_a_time(self):
-        """The name beside a file is nobody else's."""
+        """No other process uses the name beside a file."""
         names = set()
         real = os.open
 

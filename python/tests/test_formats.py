@@ -1,4 +1,4 @@
-"""--format gcc, github and sarif, and --color. SARIF is held against the rules of its schema, which are written here for the objects that are used."""
+"""--format gcc, github and sarif, and --color. SARIF is compared with the rules of its schema, which are written here for the objects that are used."""
 import json
 import os
 import pty
@@ -38,7 +38,7 @@ URI = re.compile(r"(?:[a-z]+://)?(?:[A-Za-z0-9._~!$&'()*+,;=@/-]|%[0-9A-F]{2})*"
 
 
 def faults(value, rule, at=""):
-    """What is not as the schema has it, a line each."""
+    """What does not follow the schema, a line for each."""
     if isinstance(rule, type):
         return [] if isinstance(value, rule) and (rule is bool or not isinstance(value, bool)) else [f"{at}: no {rule.__name__}"]
     if rule == "uri":
@@ -187,7 +187,7 @@ class Lines(CommandTest):
         self.says(1, f"::error file={said},line=2,endLine=3,title=ducat 20::{numbers.WORDS[20]}\n", STEP, "check", "--format", "github", path)
 
     def test_one_line_for_each(self):
-        """No name of a file makes a line, or a command, of its own."""
+        """No name of a file makes its own line or command."""
         path = self.put("a\n::error::b.star", "break\n")
         for name in ("gcc", "github"):
             self.assertEqual(len(self.run_ducat("check", "--format", name, path).out.splitlines()), 1)

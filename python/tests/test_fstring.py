@@ -26,7 +26,7 @@ def refusal(number, **carried):
 
 
 def normal(parts):
-    """Texts side by side joined, empty ones left out, str as none."""
+    """Adjacent texts joined, empty ones left out, str as none."""
     found = []
     for is_text, group in itertools.groupby(parts, lambda part: isinstance(part, bytes)):
         joined = [b"".join(group)] if is_text else ["none" if part == "str" else part for part in group]

@@ -17,7 +17,7 @@ CLEAN = "nodes 34\nerrors 0\n"
 
 class Hook(unittest.TestCase):
     def test_the_hook_takes_the_names_of_scripts(self):
-        """.pre-commit-hooks.yaml has a pattern of paths; pre-commit looks for it with re.search."""
+        """.pre-commit-hooks.yaml has a pattern of paths; pre-commit uses it with re.search."""
         with open(os.path.join(support.ROOT, ".pre-commit-hooks.yaml"), encoding="utf-8") as file:
             text = file.read()
         pattern = re.search(r"(?m)^  files: '(.*)'$", text)[1]
@@ -95,7 +95,7 @@ errors 2
             self.assertEqual(of_script["errors"], of_table["errors"], name)
 
     def test_targets_of_comprehensions(self):
-        """A table does not mark them, so they are looked for in scripts alone."""
+        """A table does not mark them, so they are checked only in scripts."""
         path = self.put("comprehension.star", "[x for 1 in y]\n{x: y for x, [f()] in y if x for z[0] in w if 7 for (8) in x}\n")
         ran = self.says(1, None, STEP, "check", path)
         self.assertEqual([line for line in ran.out.splitlines() if not line.startswith(" ")],

@@ -355,7 +355,7 @@ class Scripts(JoinTest):
         self.assertIn(note.format(1, self.at("{0}"), 1), self.run_ducat("check", "--explain", brace).out)
 
     def test_a_table_of_one_number(self):
-        """X.star is its script, whatever the number."""
+        """X.star is its script for any number."""
         star = self.put("x.star", "break\n")
         self.run_ducat("table", "--number", "7", star, "-o", self.at("x.table"))
         self.put("x.7.star", "pass\n")

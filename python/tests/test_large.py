@@ -186,7 +186,7 @@ class Bind(CommandTest):
     CALLS = "def f(a, /, b=1): return g(a)\ndef g(x): pass\nf(1)\nf(b=2)\nh(1)\nx.f(1)\nf(1)(2)\nf(1, 2, 3)\n"
 
     def compare(self, *sources, join=()):
-        """A script is bound as it is without the statements that make it large."""
+        """A script has the same bindings as without the statements that make it large."""
         small = [self.put(f"small.{at}.star", source) for at, source in enumerate(sources)]
         large = [self.put(f"large.{at}.star", source + "pass\n" * 2100) for at, source in enumerate(sources)]
         for more in ((), ("--explain",)):
@@ -230,7 +230,7 @@ class Bind(CommandTest):
 
 class Growth(unittest.TestCase):
     def test_many_statements(self):
-        """Cutting is linear: each statement is looked at twice."""
+        """Cutting is linear: each statement is visited twice."""
         source = b"def f(a, b=1):\n    return [a, b]\n" * 3000
         pieces = export.cut([source], [export.statements_of(source)])
         self.assertEqual(sum(len(piece.table) // 24 - 1 for piece in pieces), 3000 * 8)

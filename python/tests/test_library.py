@@ -34,7 +34,7 @@ TYPE = made("(Def:1 (Op:1 (Identifier a) (Index (Identifier list) (Identifier b)
 
 
 def summed(data):
-    """A file with the sum of block 0 made right."""
+    """A file with the sum of block 0 updated."""
     data[508:512] = sum(at * byte for at, byte in enumerate(data[:508], 1)).to_bytes(4, "little")
     return bytes(data)
 
@@ -186,7 +186,7 @@ class Jobs(unittest.TestCase):
         self.assertEqual(own.file[2:4], b"\x0d\0")
 
     def test_editions_of_files(self):
-        """13 used bytes and 14 used bytes with edition 1 are different files, and each is written back as it was."""
+        """13 used bytes and 14 used bytes with edition 1 are different files, and each is written back unchanged."""
         held, row, files = made("(Break)"), numbers.DIALECTS["standard"], set()
         for edition, effective in ((None, 1), (1, 1), (2, 2)):
             data = job("write", *held, row, edition).data

@@ -82,7 +82,7 @@ class Scripts(CommandTest):
         self.assertEqual((len(told["inputs"][0]["errors"]), told["totals"]["errors"]), (LINES, LINES))
 
     def test_diff(self):
-        """What two runs have alone: all but the first error."""
+        """What only one of two runs has: all but the first error."""
         old = self.put("old.json", self.run_ducat("check", "--json", self.script).out)
         self.put("long.star", "break\n")
         new = self.put("new.json", self.run_ducat("check", "--json", self.script).out)
@@ -91,7 +91,7 @@ class Scripts(CommandTest):
         self.assertEqual(out[-2], f"gone: {self.script}:{LINES}:1: 55 {numbers.WORDS[55]}")
 
     def test_bind(self):
-        """Each of 2,000 calls is printed, and counted where it is refused."""
+        """Each of 2,000 calls is printed, and counted if it is refused."""
         script = self.put("calls.star", "def f(a): pass\n" + "f(1, 2)\n" * 2000)
         out = self.run_ducat("bind", script).out
         self.assertEqual(len(re.findall(r"(?m)^\s*refused 81\b", out)), 2000)

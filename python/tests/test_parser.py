@@ -14,7 +14,7 @@ from test_export import TREES
 
 ROUNDS = int(os.environ.get("DUCAT_ROUNDS", "20000"))
 
-# scripts that are Starlark, whatever the checker says of their lists and targets
+# scripts that are Starlark, even if the checker rejects their lists and targets
 ACCEPTED = [
     "def f():\n  def g():\n    return 1\n  return g\n", "[x for x in y if (lambda a: a)]\n", "[x for x in y for z in w if a if b]\n",
     "{k: v for k, v in z if k}\n", "x = f'a'\n", "x = f\"{a}{b!r}{c!s}\"\n", "x = f'{{}}'\n", "x = f\"{d['a']}\"\n",
@@ -204,7 +204,7 @@ def nested(self, name):
 
 
 class Collector(unittest.TestCase):
-    """The parser pauses the collector of cycles. Afterwards it is as it was, also where the script is rejected."""
+    """The parser pauses the garbage collector. Afterwards it is as before, also if the script is rejected."""
 
     def setUp(self):
         self.addCleanup(gc.enable if gc.isenabled() else gc.disable)

@@ -1,4 +1,4 @@
-"""The parts of f-strings, by the crate's lexer and by what Python makes of the same f-strings; the comments of `ducat dump`."""
+"""The parts of f-strings, by the crate's lexer and by Python's result for the same f-strings; the comments of `ducat dump`."""
 import json
 import random
 import unittest
@@ -50,7 +50,7 @@ class Parts(unittest.TestCase):
         self.assertEqual([(node + last.shift, parts) for node, parts in last.fstrings], [(2102, ["repr"])])
 
     def test_as_python_has_it(self):
-        """The format text with the values put in is the string that Python makes."""
+        """The format text with the values inserted is the string that Python makes."""
         draw, values = random.Random(62), {"a": "q'", "b": 7}
         texts = ["x", " ", "é", "{{", "}}", "\\n", "\\\\", "\\x41", "\\u00e9", "\\101", "\\t", "'", "1"]
         for _ in range(ROUNDS):
@@ -87,7 +87,7 @@ class Dump(CommandTest):
 
 
 class Check(CommandTest):
-    """62 for each f-string of a script where the dialect has none."""
+    """62 for each f-string of a script if the dialect has none."""
 
     def numbers(self, status, *words):
         ran = self.says(status, None, STEP, "check", *words)

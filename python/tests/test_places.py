@@ -6,9 +6,9 @@ from command import CommandTest
 from ducatmuffin.places import Source
 
 WORDS = ": 55 `break` is outside a `for` loop"
-# a script, spans in it, and what is printed of an error at each
+# a script, spans in it, and what is printed for an error at each
 CARETS = [
-    # a tab, wide characters, one that combines, a mark that turns the direction, a byte that is not a character
+    # a tab, wide characters, one that combines, a mark that changes the direction, a byte that is not a character
     (b"a\tb = 1\n\tc\n", "2-3 9-10 8-10", """odd.star:1:3:
     a       b = 1
             ^

@@ -178,7 +178,7 @@ class Signals(CommandTest):
     """INT, TERM and HUP end the command and all that it has started; after KILL nothing holds a pipe open."""
 
     def started(self, *words, **more):
-        """A run that waits for a FIFO, which nobody writes to."""
+        """A run that waits for a FIFO without a writer."""
         if os.path.exists(self.at("fifo")):
             os.remove(self.at("fifo"))
         os.mkfifo(self.at("fifo"))
@@ -195,9 +195,9 @@ class Signals(CommandTest):
             below = self.below(running.pid)
             if len(below) >= many:
                 try:
-                    # a FIFO can be opened for writing at once only where somebody reads
+                    # a FIFO can be opened for writing at once only if it has a reader
                     self.addCleanup(os.close, os.open(self.at("fifo"), os.O_WRONLY | os.O_NONBLOCK))
-                    time.sleep(0.2)  # it has opened the FIFO, and goes on to read
+                    time.sleep(0.2)  # it has opened the FIFO, and continues to read
                     return below
                 except OSError:
                     pass
@@ -257,7 +257,7 @@ class Signals(CommandTest):
 
 class Text(unittest.TestCase):
     def test_no_word_of_how_it_was_made(self):
-        """Messages and help speak of the project alone."""
+        """Messages and help are only about the project."""
         for name in os.listdir(os.path.dirname(cli.__file__)):
             if name.endswith(".py"):
                 with open(os.path.join(os.path.dirname(cli.__file__), name), encoding="utf-8") as file:

@@ -106,7 +106,7 @@ class Reasons(unittest.TestCase):
 
     def test_the_words_beside_a_refusal(self):
         self.assertEqual(str(reasons.Why("s", node=3, kind=11)), ", node 3, kind 11 Assign: s")
-        self.assertEqual(str(reasons.Why(node=3, kind=13)), ", node 3, kind 13, which is none")
+        self.assertEqual(str(reasons.Why(node=3, kind=13)), ", node 3, kind 13, which is not a kind")
         self.assertEqual(str(reasons.Why(block=2)), ", block 2")
 
 

@@ -1,4 +1,4 @@
-"""One case of each number: the package gives it, with the words and what it carries as they are recorded. bindings/run holds C and Rust to the same."""
+"""One case of each number: the package gives it, with the recorded words and what it carries. bindings/run compares C and Rust with the same record."""
 import unittest
 
 import support
@@ -29,4 +29,4 @@ def is_recorded(test, case, recorded):
 
 @support.each(is_recorded, list(zip(refusals.CASES, lines(refusals.RECORD))), "number")
 class Recorded(unittest.TestCase):
-    """What is printed of each case is what is recorded."""
+    """What is printed for each case is what is recorded."""

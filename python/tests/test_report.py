@@ -135,7 +135,7 @@ class Errors(ReportTest):
                     self.assertIn(f"#{mark}p", [link.attributes["href"] for link in below.all("a")])
 
     def check_mark(self, part, mark, source, told):
-        """The marks of a key hold the span's text, from its line on."""
+        """The marks of a key have the span's text, from its line on."""
         marks = [one for one in part.all("mark") if mark in one.attributes["data-e"].split()]
         span = source.bytes[told["begin"]:told["end"]].decode()
         self.assertEqual("".join(one.text for one in marks), span.replace("\n", "").replace("\r", ""), mark)
@@ -164,7 +164,7 @@ class Errors(ReportTest):
         names = ["samples/example.table", "samples/whole.table", "samples/take.table", "samples/joined.table"]
         root = self.report(1, *names)
         self.check_errors(root, self.told("check", *names))
-        self.assertEqual(len(list(root.all("h4"))), 4 + 1 + 4)  # texts, of the joined table two; calls
+        self.assertEqual(len(list(root.all("h4"))), 4 + 1 + 4)  # texts, two for the joined table; calls
 
     def test_spans_in_each_other_and_empty_lines(self):
         path = self.put("x.star", "\n\ndef f(a, a,\n      b=1, c):\r\n  return (lambda x, x: [\n    1 for 2 in y])(a=1, a=2)\n\nbreak")

@@ -28,7 +28,7 @@ class RescueTest(CommandTest):
         self.alone()
 
     def refused(self, out, said, *words, **more):
-        """What leaves OUT as it was."""
+        """What leaves OUT unchanged."""
         self.put("kept.table", "old")
         words = words if "-o" in words else (*words, "-o", self.at("kept.table"))
         ran = self.run_ducat("rescue", *words, **more)
@@ -188,7 +188,7 @@ class Ended(CommandTest):
         source = self.at("out") if number % 2 else self.at("in")
         began = time.monotonic()
         running = subprocess.Popen(command("rescue", source, "-o", self.at("out")), stdout=subprocess.DEVNULL, stderr=subprocess.DEVNULL)
-        if number % 8 == 0:  # a run to its end, so that the moments of the next ones fit how busy the machine is
+        if number % 8 == 0:  # a complete run, so that the moments of the next ones fit the load of the machine
             running.wait()
             self.longest = time.monotonic() - began
         until = began + draw.uniform(0, 1.2 * self.longest)

@@ -1,4 +1,4 @@
-"""ducat rule: each example gives its number. ducat diff: what two runs have each alone."""
+"""ducat rule: each example gives its number. ducat diff: what only one of two runs has."""
 import json
 import re
 import unittest
@@ -10,7 +10,7 @@ from ducatmuffin.library import NO_FIGURES, Refusal
 
 
 def with_bytes(data, then, more):
-    """A table file with bytes changed, the sums of their blocks made right, and bytes after it."""
+    """A table file with bytes changed, the sums of their blocks updated, and bytes after it."""
     for at, value in then:
         first = at - at % 512
         front = bytearray(data[first:first + 508])

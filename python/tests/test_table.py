@@ -107,7 +107,7 @@ WRONG = [
     ("(Break)\nnames: shared\nnames: shared", ":3: a second line names:"),
     (b"(Statements\n(OtherSimple (Identifier \xff)))", ":2: not UTF-8"),
 ]
-# texts that are right, and how many blocks they take
+# texts that are right, and the number of blocks that they take
 RIGHT = [
     ("(Break)", 2), ("(Statements)", 2), (f"(OtherSimple (Identifier {NAME}))", 3), ("(Break kind=13)", 2), ("(Assign (Int))", 2),
     ("(Break size=0 file=0 pos=7 name=1+0)", 2), ("(Break span=2147483647-2147483647)", 2), ("(Def:1 (Normal:3 a (Int) (Int)) (Int) (Break))", 3),

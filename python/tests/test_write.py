@@ -1,4 +1,4 @@
-"""ducat write, table and dump: what is written is what the samples have, what is refused leaves OUT as it was, and a dump gives the same bytes back."""
+"""ducat write, table and dump: what is written is what the samples have, what is refused leaves OUT unchanged, and a dump gives the same bytes back."""
 import json
 import os
 import random
@@ -183,7 +183,7 @@ class Dump(CommandTest):
                 self.again(support.sample(f"{name}.table"))
 
     def test_tables_that_are_not_sound(self):
-        """Every table in good blocks has a text; standard error says what is wrong with it."""
+        """Every table in good blocks has a text; standard error reports what is wrong with it."""
         draw, take = random.Random(11), support.library().read(support.sample("take.table"))
         for _ in range(25):
             changed = bytearray(take.table)

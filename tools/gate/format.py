@@ -159,7 +159,7 @@ def example():
     names = b"".join(one[4:4 + n] for one, n in zip(blocks[1:first], used[1:first]))
     table = b"".join(one[4:4 + n] for one, n in zip(blocks[first:], used[first:]))
     if len(names) != count or len(table) != 24 * nodes:
-        raise NoSample(fault("the blocks of samples/example.table do not hold the names and nodes that its header has"))
+        raise NoSample(fault("the blocks of samples/example.table do not have the names and nodes that its header states"))
     lines += ["| Bytes of the file | Hexadecimal | What it is |", "|---|---|---|"]
     for number, (one, n) in enumerate(zip(blocks, used)):
         at, content, total = 512 * number, one[4:4 + n], struct.unpack_from("<I", one, 508)[0]

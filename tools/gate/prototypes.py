@@ -177,7 +177,7 @@ def recorded_words():
 def out_words():
     said, recorded = words_said(), recorded_words()
     if "all others" not in said or len(recorded) < 2:
-        report(fault("include/starlark.h: what is said of `out` cannot be read, or bindings/c/refusals has no record"))
+        report(fault("include/starlark.h: the table of `out` cannot be read, or bindings/c/refusals has no record"))
     for number, words in recorded.items():
         places = {at for at, word in enumerate(words) if word != "."}
         wanted = {0, 1} if number == 63 else said.get(number, said.get("all others", set()))  # 63: see starlark_fstring_read
@@ -239,12 +239,12 @@ def enums():
     """The enums that are written by hand, and the places of figures."""
     editions = dict(re.findall(r"\(eqb n (\d+)\) \(λ _\. Known (One|Two)\)", (CRATES / "dialect" / "specs" / "Editions.antt").read_text()))
     if enum_of("edition") != {{"One": "1", "Two": "2"}[of]: int(word) for word, of in editions.items()}:
-        report(fault("include/starlark.h: enum starlark_edition has not the editions of crates/dialect/specs/Editions.antt"))
+        report(fault("include/starlark.h: enum starlark_edition does not have the editions of crates/dialect/specs/Editions.antt"))
     words = dict(re.findall(r"\(eqb kind (\d+)\) \(λ _\. (text|str|repr)", (CRATES / "fstring" / "specs" / "Words.antt").read_text()))
     parts = {of.upper(): int(word) for word, of in words.items()}
     parts["NONE"] = ({0, 1, 2, 3} - set(parts.values())).pop()
     if enum_of("part") != parts:
-        report(fault("include/starlark.h: enum starlark_part has not the words of crates/fstring/specs/Words.antt"))
+        report(fault("include/starlark.h: enum starlark_part does not have the words of crates/fstring/specs/Words.antt"))
     places = {case: number("figures/src/lib.rt", case) for case in ("FILES", "NODES", "LISTS", "CALLS_ACCEPTED", "CALLS_REFUSED")}
     places |= {"MODE_POS_ONLY": number("figures/src/lib.rt", "MODES"), "ERROR_10": number("figures/src/lib.rt", "ERRORS")}
     for case, place in places.items():
