@@ -61,6 +61,16 @@ def ordered(term):
     return parts
 
 
+def words(term):
+    """The words of MIR: the names of the functions that are called are among them, in quotes."""
+    return set().union(*map(words, term)) if isinstance(term, list) else {term}
+
+
+def renamed(term, names):
+    """MIR with other words for some."""
+    return [renamed(part, names) for part in term] if isinstance(term, list) else names.get(term, term)
+
+
 def functions(text):
     """Every function of a printed program by its name."""
     return functions_of(terms(text), {})

@@ -87,7 +87,6 @@ def edits(name):
     return [Edit(path) for folder in ("must-fail", "wrong") for path in sorted((CRATES / name / folder).glob("*.edit"))]
 
 
-
 def function_at(crate, file, before):
     """The function in which the text before a place ends, as the prover names it: a method by its type. None outside of functions."""
     named = re.findall(rf"^( *){HEAD}(\w+)", before, re.M)
@@ -98,6 +97,26 @@ def function_at(crate, file, before):
         return "::".join([crate, re.findall(r"^impl (\w+)", before, re.M)[-1], name])
     modules = [] if file == "src/lib.rt" else file.removeprefix("src/").removesuffix(".rt").split("/")
     return "::".join([crate, *modules, name])
+
+
+def part_at(text, at):
+    """What a place of a text is in: a 'body', a 'constant', or something else."""
+    before = text[: text.find("\n", at)]
+    items = list(re.finditer(rf"^( *)(?:{HEAD}|(?:pub(?:\(crate\))? )?(const|struct|enum|type|impl|mod|use)\b|ghost use\b|#)", before, re.M))
+    if not items:
+        return "the head of the file"
+    last = items[-1]
+    if last.group(2):
+        return "constant" if last.group(2) == "const" else f"`{last.group(2)}`"
+    if not re.match(rf" *{HEAD}", last.group(0)):
+        return "a ghost use or an attribute"
+    opened = re.search(rf"^{last.group(1)}(?:{{|[^\n]*\) (?:-> [^\n]* )?{{)$", text[last.start() :], re.M)
+    return "body" if opened and last.start() + opened.end() <= at else "the signature or contract of a function"
+
+
+def constant_at(text, at):
+    """The name of the constant that a place of a text is in."""
+    return re.findall(r"\bconst (\w+)", text[: text.find("\n", at)])[-1]
 
 
 # how a definition, a record, a field or a statement begins

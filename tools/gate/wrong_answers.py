@@ -3,10 +3,10 @@
 
 A trial takes seconds, while a trial of rt, for the edits of must-fail, takes a whole check of the crate:
 - Modules that an edit does not change are taken from the crate's proved library (target/rlib), in the kit's folder of checked modules.
-- An edit of one function makes a twin of it: the wrong function is added under another name beside the right one, with the same
-  contract and a copy of the proof. So all such edits of a crate share one check, in which every other function must be proved. An edit that is not
-  refused as a twin is tried again in place.
-- An edit of a constant, of a method or of functions that call one another is done in place. Edits of different functions share a check,
+- An edit makes a twin (twins.py): the wrong function is added under another name beside the right one, with the same contract and a copy of the proof.
+  So all edits of a crate share one check, in which every other function must be proved. Functions that call one another are copied together, and one
+  unchanged copy of them must be proved too. A wrong constant is added under another name, and a copy of the function that must be refused uses it.
+- An edit that has no twin, or that is not refused as one, is tried in place, and the run names it. Edits of different functions share a check,
   since a function's proof uses the promises of those that it calls and not their code. If the prover reports that an edited function calls one that is not
   proved, which may be because of another edit, the edit is tried again without the edits that are settled, in the end alone. Every other function must be proved, or be refused for a function that it calls.
 
@@ -40,10 +40,10 @@ import mir
 import promises
 import repository
 from reports import fault
-from repository import CRATES, HEAD, ROOT, BadEdit, Edit, definition_at, function_at
+from repository import CRATES, HEAD, ROOT, BadEdit, Edit, constant_at, definition_at, function_at, part_at
+from twins import Twin, proof_of, unchanged, with_cycle
 
 TARGET = ROOT / "target"
-TWIN = "wrong"  # what is added to the name of a wrong function beside the right one
 WORK = TARGET / "wrong"
 KIT = repository.Kit()
 
@@ -87,28 +87,13 @@ def code_of(name, folder):
     return {f: body for f, body in mir.functions(done.stdout).items() if f.startswith(name + "::")}
 
 
-def part_at(text, at):
-    """What a place of a text is in: a 'body', a 'constant', or something else."""
-    before = text[: text.find("\n", at)]
-    items = list(re.finditer(rf"^( *)(?:{HEAD}|(?:pub(?:\(crate\))? )?(const|struct|enum|impl|mod|use)\b|ghost use\b|#)", before, re.M))
-    if not items:
-        return "the head of the file"
-    last = items[-1]
-    if last.group(2):
-        return "constant" if last.group(2) == "const" else f"`{last.group(2)}`"
-    if not re.match(rf" *{HEAD}", last.group(0)):
-        return "a ghost use or an attribute"
-    opened = re.search(rf"^{last.group(1)}(?:{{|[^\n]*\) (?:-> [^\n]* )?{{)$", text[last.start() :], re.M)
-    return "body" if opened and last.start() + opened.end() <= at else "the signature or contract of a function"
-
-
 class Trial(Edit):
     """An edit that is tried: the functions that it is in, and the one that must be refused."""
 
     def __init__(self, path):
         super().__init__(path)
         self.counted = path.parent.name != "must-fail"
-        self.functions = set()
+        self.functions, self.constants = set(), set()
 
     def find(self):
         """Sees that each old text is once in its file, when the pairs before it are done, in a body or a constant; notes the functions."""
@@ -122,6 +107,8 @@ class Trial(Edit):
             part = part_at(text, text.find(old))
             if part not in ("body", "constant"):
                 raise BadEdit(fault(f"it edits {part}"))
+            if part == "constant":
+                self.constants.add(constant_at(text, text.find(old)))
             self.functions.add(function_at(self.crate, file, text.partition(old)[0]) if part == "body" else None)
             texts[file] = text.replace(old, new)
         if not self.pairs:
@@ -148,42 +135,10 @@ class Trial(Edit):
             parts[at] = parts[at].replace(old, new)
             (folder / file).write_text("".join(parts))
 
-    @property
-    def alone(self):
-        """The one function that the edit changes, where a twin of it can stand beside it: no method, and none that calls itself."""
-        if len(self.functions) != 1 or None in self.functions or self.meant != self.functions:
-            return None
-        [function] = self.functions
-        return None if function.split("::")[-2][0].isupper() or self.is_in_cycle(function) else function
-
-    def is_in_cycle(self, function):
-        """Whether a function has its proof in a folder for functions that call one another."""
-        return any(function.rpartition("::")[2] in path.name.split("+")[1:] for path in (CRATES / self.crate / "proofs").rglob("+*"))
-
-    def twin(self):
-        """The name of the wrong function, as the prover gives it."""
-        return f"{self.alone}_{TWIN}_{self.label}"
-
-    def add_twin(self, folder):
-        """Puts the wrong function at the end of its file, and a copy of the right one's proof beside it."""
-        (_, *modules, name), new = self.alone.split("::"), self.twin().rpartition("::")[2]
-        file = self.pairs[0][0]
-        head = rf"(?m)^((?:#\[no_mangle\]\n)?{HEAD}){name}\b(?s:(.*?^}}\n))"
-        start, rest = re.search(head, (CRATES / self.crate / file).read_text()).groups()
-        for _, old, text in self.pairs:
-            rest = rest.replace(old, text)
-        with (folder / file).open("a") as code:
-            code.write(f"\n{start}{new}{rest}")
-        right = folder.joinpath("proofs", *modules, name)
-        if right.is_dir():
-            proof = (shutil.copytree(right, right.with_name(new)) / "Proof.antt")
-            text = proof.read_text().replace(f"proofs.{'.'.join([*modules, name])}.", f"proofs.{'.'.join([*modules, new])}.")
-            proof.write_text(re.sub(rf"(?<![\w-]){name.replace('_', '-')}-spec\b", f"{new.replace('_', '-')}-spec", text))
-
-    def judge_code(self, before, after, name=lambda function: function):
-        """Sees that the edit changes what each function meant does, and no step that its proof is asked about; name gives that of the wrong one."""
+    def judge_code(self, before, after):
+        """Sees that the edit changes what each function meant does, and no step that its proof is asked about."""
         for function in sorted(self.meant):
-            old, new = before.get(function), after.get(name(function))
+            old, new = before.get(function), after.get(function)
             if not new or mir.ordered(old) == mir.ordered(new):
                 raise BadEdit(fault(f"the code of {function} stays the same"))
             if mir.steps(old) != mir.steps(new):
@@ -214,13 +169,6 @@ class Definition(Trial):
 def trial_of(path):
     """An edit as it is tried: of code, or of a definition where its crate has none."""
     return (Trial if repository.has_code(Edit(path).crate) else Definition)(path)
-
-
-def with_cycle(function, folder):
-    """A function and those that it shares its one proof with, since they call one another."""
-    above, _, name = function.rpartition("::")
-    cycles = [path.name.split("+")[1:] for path in (folder / "proofs").rglob("+*") if path.is_dir()]
-    return {function} | {f"{above}::{other}" for cycle in cycles if name in cycle for other in cycle}
 
 
 def check(name, folder, kept):
@@ -274,12 +222,12 @@ def refused_themselves(said, folder):
 
 def reason(said, function, folder):
     """The fact at which a function is refused, and what fails there: a tactic, or a law that gives another fact. The first error counts."""
-    here, names = function.split("::")[1:], sorted(f.rpartition("::")[2] for f in with_cycle(function, folder))
-    places = ["/".join(["proofs", *here[:-1], own, "Proof.antt"]) for own in (here[-1], "+" + "+".join(names))]
+    proof = proof_of(function, folder) / "Proof.antt"
     errors = re.split(r"(?m)^(?=\S+?:\d+:\d+: |fn |note: )", said)
-    own = re.compile(rf"\S+/(?:{'|'.join(map(re.escape, places))}):\d+:\d+: error: ")
+    own = re.compile(rf"\S+/{re.escape(str(proof.relative_to(folder)))}:\d+:\d+: error: ")
     errors = [error for error in errors if own.match(error) and "was not admitted (it has" not in error]
-    errors += re.findall(rf"^fn {re.escape(function)}: no proof: .*", said, re.M)
+    if not proof.exists():  # then the prover makes the proof, and says here what it does not find
+        errors += re.findall(rf"^fn {re.escape(function)}: no proof: .*", said, re.M)
     if not errors:
         raise BadEdit(fault(f"{function} is refused, and no fact is named"))
     head = re.sub(r"^(?:\S+: error: `[^`]*`: |fn \S+: no proof: expected `[^`]*` in [^;]*; )", "", errors[0]).partition("\n")[0]
@@ -315,24 +263,27 @@ def shared(edits):
     return chosen
 
 
-def settle_twin(edit, before, after, said, refused):
-    """The same of a wrong function that stands beside the right one; refused are the functions that the prover does not prove."""
-    edit.judge_code(before, after, lambda function: edit.twin())
-    if edit.twin() not in refused:
-        return False, fault(f"NOT REFUSED in {edit.twin()}")
-    return True, f"refused, as it must be, at {edit.alone}: {reason(said, edit.twin(), CRATES / edit.crate)}"
+def settle_twin(twin, before, after, said, refused, folder):
+    """The verdict on an edit by its wrong functions beside the right ones; refused are the functions that the prover does not prove."""
+    twin.edit.judge_code(before, twin.code(after))
+    proved = {function for function in twin.edit.meant if twin.name(function) not in refused}
+    if proved:
+        return False, fault(f"NOT REFUSED beside {' and '.join(sorted(proved))}")
+    reasons = [f"{function}: {reason(said, twin.name(function), folder)}" for function in sorted(twin.edit.meant)]
+    return True, f"refused, as it must be, at {'; '.join(reasons)}"
 
 
-def as_twins(name, edits, before, build):
+def as_twins(name, twins, before, build):
     """Tries edits as twins in one check: the verdicts of those that are refused as they must be. Any other is to be tried in place."""
     try:
-        after, said = trial(name, "twins", edits, build, Trial.add_twin)
+        after, said = trial(name, "twins", [*twins, *unchanged(twins)], build, Twin.add)
     except BadEdit:
         return {}
-    refused = refused_themselves(said, CRATES / name)
-    if refused - {edit.twin() for edit in edits}:
+    folder = WORK / name / "twins"
+    refused = refused_themselves(said, folder)
+    if refused - {twin.name(function) for twin in twins for function in twin.copied}:
         return {}
-    verdicts = {edit: or_bad(settle_twin, edit, before, after, said, refused) for edit in edits}
+    verdicts = {twin.edit: or_bad(settle_twin, twin, before, after, said, refused, folder) for twin in twins if twin.is_apart(after)}
     return {edit: verdict for edit, verdict in verdicts.items() if verdict[0]}
 
 
@@ -387,18 +338,9 @@ def of_definitions(name, edits, build):
     return [*told, (None, None, f"wrong {name}: {len(edits)} edits in {len(edits)} checks, {round(time.time() - began)} s")]
 
 
-def of_crate(name, edits, build):
-    """Tries a crate's edits: for each whether it is refused for the right reason, and the verdict in words."""
-    if not repository.has_code(name):
-        return of_definitions(name, edits, build)
-    began, checks, alone = time.time(), 0, False
-    before = code_of(name, copy_of(name, "before"))
-    verdicts = {edit: or_bad(edit.find) for edit in edits}
-    twins = [edit for edit in edits if not verdicts[edit] and edit.alone]
-    if twins:
-        checks += 1
-        verdicts |= as_twins(name, twins, before, build)
-    left = [edit for edit in edits if not verdicts[edit]]
+def in_place(name, edits, before, build):
+    """Tries edits in place, as many in one check as touch different proofs: their verdicts, and the number of checks."""
+    verdicts, left, checks, alone = {}, edits, 0, False
     while left:
         some = left[:1] if alone else shared(left)
         checks += 1
@@ -412,10 +354,27 @@ def of_crate(name, edits, build):
             verdicts |= {edit: (False, said) for edit in settled}
         left = [e for e in left if e not in settled]
         alone = not settled
+    return verdicts, checks
+
+
+def of_crate(name, edits, build):
+    """Tries a crate's edits: for each whether it is refused for the right reason, and the verdict in words."""
+    if not repository.has_code(name):
+        return of_definitions(name, edits, build)
+    began = time.time()
+    before = code_of(name, copy_of(name, "before"))
+    verdicts = {edit: or_bad(edit.find) for edit in edits}
+    twins = [twin for twin in (Twin(edit) for edit in edits if not verdicts[edit]) if twin.is_possible]
+    verdicts |= as_twins(name, twins, before, build) if twins else {}
+    left = [edit for edit in edits if not verdicts[edit]]
+    others, checks = in_place(name, left, before, build)
+    verdicts |= others
     for edit, (_, words) in verdicts.items():
         edit.told = words
     told = [(edit, right, f"wrong {name}/{edit.label}: {words}") for edit, (right, words) in verdicts.items()]
-    return [*told, (None, None, f"wrong {name}: {len(edits)} edits in {checks} checks, {round(time.time() - began)} s")]
+    if left:
+        told.append((None, None, f"wrong {name}: tried in place: {', '.join(edit.label for edit in left)}"))
+    return [*told, (None, None, f"wrong {name}: {len(edits)} edits in {checks + bool(twins)} checks, {round(time.time() - began)} s")]
 
 
 def try_all(by_crate):

@@ -111,6 +111,13 @@ def edit(words, crate="fields"):
     return created(f"crates/{crate}/wrong/planted.edit", words)
 
 
+def with_constant(plant):
+    """A constant in fields, a function that uses it, an edit of the constant, and what is planted beside them."""
+    function = "const MADE: u8 = 1;\n\nfn made() -> u8\n{\n    MADE\n}\n"
+    return all_of(added("crates/fields/src/lib.rt", function), created("crates/fields/proofs/made/Proof.antt", "made-spec = tt\n"),
+                  edit(f"function: fields::made\n{CODE}old: MADE: u8 = 1\nnew: MADE: u8 = 2\n"), plant)
+
+
 CODE = "file: src/lib.rt\n"
 SPECS = "file: specs/Table.antt\n"
 IN_WRONG = [
@@ -133,6 +140,8 @@ IN_WRONG = [
     Planted("a text that is there twice", edit(CODE + "old:         return 0;\nnew: b\n"), "planted: BAD EDIT: an 'old:' text is in src/lib.rt 3 times"),
     Planted("an edit of a contract", edit(CODE + "old: field 2 (\nnew: field 4 (\n"), "planted: BAD EDIT: it edits the signature or contract of a function"),
     Planted("an edit of an import", edit(CODE + "old: lib.ListN.{getD}\nnew: lib.ListN.{take}\n"), "planted: BAD EDIT: it edits a ghost use or an attribute"),
+    Planted("an edit of a type", all_of(added("crates/fields/src/lib.rt", "type Made = u8;\n"), edit(CODE + "old: type Made = u8\nnew: type Made = u16\n")),
+            "planted: BAD EDIT: it edits `type`"),
     Planted("an edit without a pair", edit("Words alone.\n"), "planted: BAD EDIT: it has no pair of 'old:' and 'new:'$"),
     Planted("an edit of a constant without a function", all_of(added("crates/fields/src/lib.rt", "const MADE: u8 = 1;\n"), edit(CODE + "old: MADE: u8 = 1\nnew: MADE: u8 = 2\n")),
             "planted: BAD EDIT: it edits a constant and has no 'function:'"),
@@ -142,6 +151,13 @@ IN_WRONG = [
     Planted("an edit of a comment", all_of(added("crates/examples/specs/Table.antt", "-- meadow\n"), edit(SPECS + "old: -- meadow\nnew: -- field\n", "examples")),
             "planted: BAD EDIT: in specs/Table.antt it is in no definition"),
     Planted("an edit without a pair in a crate without code", edit("Words alone.\n", "examples"), "planted: BAD EDIT: it has no pair of 'old:' and 'new:' in a crate without code"),
+    Planted("a constant, which the made-up prover refuses only beside the right one", with_constant(nothing), None),
+    Planted("a constant that another file names, and that is tried in place", with_constant(created("crates/fields/src/other.rt", "use crate::MADE;\n")),
+            "planted: BAD EDIT: the code of fields::made stays the same"),
+    Planted("a constant that a type names, and that is tried in place", with_constant(added("crates/fields/src/lib.rt", "type Made = [u8; MADE];\n")),
+            "planted: BAD EDIT: the code of fields::made stays the same"),
+    Planted("a constant that the signature of another function names, and that is tried in place", with_constant(
+        added("crates/fields/src/lib.rt", "fn other(made: &[u8; MADE]) -> u8\n{\n    0\n}\n")), "planted: BAD EDIT: the code of fields::made stays the same"),
     Planted("one edit that is refused", removed("crates/fields/wrong/half_factor.edit"), None),
 ]
 
