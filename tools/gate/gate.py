@@ -97,12 +97,12 @@ STEPS = [
     Step("imports", "no file has an unused import", python("tools/gate/imports.py")),
     Step("lines", "line length, `.before` chains and the length of laws are within their limits", python("tools/gate/lines.py")),
     Step("flake8", "flake8 finds no fault in the Python files", ("flake8", "--config", "tools/gate/flake8.ini", ".", "ducat", "bench/command", "bench/corpus", "oracle/faults-port"), ("flake8",)),
-    # rt ci is the verdict. It proves the crates of a level in batches and waits for each batch, so a batch that holds a whole level, at most seven
-    # crates, keeps two processors busiest.
+    # rt ci is the verdict. It waits for all of a batch before it starts the next, so batches of four keep two processors busier than batches of two. Batches
+    # of eight, which hold a whole level, took no less time and more memory (docs/landings/base-16.md).
     Step(
         "proofs",
         "rt ci: every crate is proved again, every program is run",
-        ("env", "RT_JOBS=" + os.environ.get("RT_JOBS", "8"), "rt", "ci"),
+        ("env", "RT_JOBS=" + os.environ.get("RT_JOBS", "4"), "rt", "ci"),
         lane=PROOFS,
         counts=r"(\d+) passed, (\d+) failed",
     ),
