@@ -164,17 +164,3 @@ class Twin:
         """The intermediate code of the copies by the names of the right functions, and with these names in it, so that both can be compared."""
         right = {f'"{self.name(function)}"': f'"{function}"' for function in self.copied}
         return {function: mir.renamed(code[self.name(function)], right) for function in self.copied if self.name(function) in code}
-
-
-class Unchanged(Twin):
-    """A copy of a cycle without the edit. It must be proved. So a copy with the edit is refused for the edit, and not for being a copy."""
-
-    def __init__(self, edit, cycle):
-        super().__init__(edit)
-        self.pairs, self.prefix, self.copied = [], "right_", cycle
-
-
-def unchanged(twins):
-    """An unchanged copy of each cycle that twins are made of."""
-    cycles = {frozenset(with_cycle(function, twin.crate)): twin.edit for twin in twins for function in twin.in_cycles}
-    return [Unchanged(edit, set(cycle)) for cycle, edit in cycles.items()]
