@@ -21,8 +21,9 @@ The edits of must-fail are judged in the same way, and not counted, since rt cou
 
 A crate without code (demand3, reached, audited, examples) has edits of its definitions: each makes one definition of specs/ wrong, and the
 prover must refuse a theorem of the crate at a stated fact. `statements`, which has no specs/, has edits of its statements: each makes one say
-more than its theorem. Each such edit is a separate check. It is bad if it is in a comment, an import or a proof, or if the prover
-refuses the text and not a fact: an unknown name, a clause that does not fit.
+more than its theorem. It is bad if it is in a comment, an import or a proof, or if the prover refuses the text and not a fact: an unknown
+name, a clause that does not fit. Each edit of a definition is a separate check. Edits of statements share one, in which every other statement must be
+proved: a statement cites a theorem of another crate and no other statement, so that it is refused for its own edit (`statements_apart`).
 
 wrong_answers.py [NAME[/EDIT]...]    after rt check or rt ci. The last line is 'N wrong answers refused, M not'; status 0 where M is 0.
 wrong_answers.py --try FOLDER        every edit of FOLDER shows nothing ('crate: ' names its crate): each must be reported as bad, or not refused.
@@ -146,7 +147,7 @@ class Trial(Edit):
 
 
 class Definition(Trial):
-    """An edit of a definition, or of a statement, in a crate without code."""
+    """An edit of a definition, or of a statement, in a crate without code. Its functions are these, each with its file."""
 
     def find(self):
         texts = {}
@@ -155,8 +156,10 @@ class Definition(Trial):
             text = texts.get(file) or (path.read_text() if path.is_file() else "")
             if text.count(old) != 1:
                 raise BadEdit(fault(f"an 'old:' text is in {file} {text.count(old)} times in a crate without code"))
-            if not definition_at(self.crate, file, text, text.find(old)):
+            own = definition_at(self.crate, file, text, text.find(old))
+            if not own:
                 raise BadEdit(fault(f"in {file} it is in no definition"))
+            self.functions.add((file, own))
             texts[file] = text.replace(old, new)
         if not self.pairs:
             raise BadEdit(fault("it has no pair of 'old:' and 'new:' in a crate without code"))
@@ -200,17 +203,22 @@ def build_folder():
     return next(p.name for p in kept.iterdir() if p.name.startswith("antt-checked"))
 
 
-def trial(name, label, edits, build, apply=Trial.apply):
-    """A check of the crate with these edits, over the modules of its proved library: its code, and what the prover says."""
-    folder, kept = copy_of(name, label), WORK / name / (label + ".kept")
-    for edit in edits:
-        apply(edit, folder)
-    code = code_of(name, folder)
+def check_over(name, folder, build):
+    """What rattle says of a crate in a folder, over the modules of its proved library."""
+    kept = folder.with_name(folder.name + ".kept")
     shutil.rmtree(kept, ignore_errors=True)
     shutil.copytree(TARGET / "rlib" / f"{name}.rlib" / "toolchain" / "checked", kept / build)
     said = check(name, folder, kept)
     shutil.rmtree(kept)
-    return code, said
+    return said
+
+
+def trial(name, label, edits, build, apply=Trial.apply):
+    """A check of the crate with these edits: its code, and what the prover says."""
+    folder = copy_of(name, label)
+    for edit in edits:
+        apply(edit, folder)
+    return code_of(name, folder), check_over(name, folder, build)
 
 
 def refused_themselves(said, folder):
@@ -308,34 +316,69 @@ def or_bad(judge, *words):
         return False, f"BAD EDIT: {bad}"
 
 
-def settle_definition(edit, build):
-    """Whether an edit of a definition is refused at a stated fact of its crate, and the verdict in words."""
-    edit.find()
-    folder, kept = copy_of(edit.crate, edit.label), WORK / edit.crate / (edit.label + ".kept")
-    edit.apply(folder)
-    shutil.rmtree(kept, ignore_errors=True)
-    shutil.copytree(TARGET / "rlib" / f"{edit.crate}.rlib" / "toolchain" / "checked", kept / build)
-    said = check(edit.crate, folder, kept)
-    shutil.rmtree(kept)
+def errors_in(name, label, edits, build):
+    """What the prover refuses in a crate without code that has these edits: for each error its file, its theorem and its words."""
+    folder = copy_of(name, label)
+    for edit in edits:
+        edit.apply(folder)
+    said = check_over(name, folder, build)
     errors = re.findall(rf"(?m)^{re.escape(str(folder))}/(\S+?):\d+:\d+: error: (?:`([^`]*)`: )?(.*)", said)
-    errors = [e for e in errors if "was not admitted (it has" not in e[2]]
-    if re.search(r"(?m)^logic=proved ", said):
-        return False, fault("NOT REFUSED")
-    if not errors or not errors[0][0].startswith("proofs/"):
-        raise BadEdit(fault(f"no theorem is refused, but: {errors[0] if errors else said[-300:]}"))
-    file, theorem, words = errors[0]
+    return [e for e in errors if "was not admitted (it has" not in e[2]], said
+
+
+def fact_at(error):
+    """The verdict on an edit by the first error that it causes."""
+    file, theorem, words = error
     tactic = next((tactic for pattern, tactic in FACTS.items() if re.match(pattern, words)), None)
     if not tactic:
         raise BadEdit(fault(f"{theorem} of {file} is refused at no stated fact: {words[:300]}"))
     return True, f"refused, as it must be, at {theorem} of {file}: {tactic}"
 
 
+def settle_definition(edit, build):
+    """Whether an edit of a definition is refused at a stated fact of its crate, and the verdict in words."""
+    errors, said = errors_in(edit.crate, edit.label, [edit], build)
+    if re.search(r"(?m)^logic=proved ", said):
+        return False, fault("NOT REFUSED")
+    if not errors or not errors[0][0].startswith("proofs/"):
+        raise BadEdit(fault(f"no theorem is refused, but: {errors[0] if errors else said[-300:]}"))
+    return fact_at(errors[0])
+
+
+def is_cited(statement, text):
+    """Whether a file has the name of a statement elsewhere than at the start of a line, where the statement and its proof have it."""
+    return any(statement in re.split(r"[\s(){},;]+", line.removeprefix("pub "))[1:] for line in text.splitlines())
+
+
+def statements_apart(name, edits):
+    """Those edits of statements of which none can be refused for another's: no two edit one statement, no file imports another, and no proof cites an edited statement."""
+    texts = {file: (CRATES / name / file).read_text() for edit in edits for file, _ in edit.functions}
+    if (CRATES / name / "specs").is_dir() or any(f"Rattle·{name}·" in text for text in texts.values()):
+        return []  # a definition is used by many theorems, so that it is not known for which edit one of them is refused
+    edited = [own for edit in edits for own in edit.functions]
+    return [edit for edit in edits if all(edited.count((file, own)) == 1 and not is_cited(own, texts[file]) for file, own in edit.functions)]
+
+
+def as_statements(name, edits, build):
+    """Tries edits of statements in one check: the verdicts of those that are refused at their own statement. Any other is to be tried alone."""
+    errors, _ = errors_in(name, "statements", edits, build)
+    if {(file, own) for file, own, _ in errors} - {own for edit in edits for own in edit.functions}:
+        return {}
+    first = {edit: next((error for error in errors if error[:2] in edit.functions), None) for edit in edits}
+    verdicts = {edit: or_bad(fact_at, error) for edit, error in first.items() if error}
+    return {edit: verdict for edit, verdict in verdicts.items() if verdict[0]}
+
+
 def of_definitions(name, edits, build):
-    """Tries the edits of a crate without code, each in a check of its own."""
+    """Tries the edits of a crate without code: those of statements in one check, each other in a check of its own."""
     began = time.time()
-    verdicts = {edit: or_bad(settle_definition, edit, build) for edit in edits}
+    verdicts = {edit: or_bad(edit.find) for edit in edits}
+    some = statements_apart(name, [edit for edit in edits if not verdicts[edit]])
+    verdicts |= as_statements(name, some, build) if some else {}
+    alone = [edit for edit in edits if not verdicts[edit]]
+    verdicts |= {edit: or_bad(settle_definition, edit, build) for edit in alone}
     told = [(edit, right, f"wrong {name}/{edit.label}: {words}") for edit, (right, words) in verdicts.items()]
-    return [*told, (None, None, f"wrong {name}: {len(edits)} edits in {len(edits)} checks, {round(time.time() - began)} s")]
+    return [*told, (None, None, f"wrong {name}: {len(edits)} edits in {len(alone) + bool(some)} checks, {round(time.time() - began)} s")]
 
 
 def in_place(name, edits, before, build):
