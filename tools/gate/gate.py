@@ -97,8 +97,8 @@ STEPS = [
     Step("imports", "no file has an unused import", python("tools/gate/imports.py")),
     Step("lines", "line length, `.before` chains and the length of laws are within their limits", python("tools/gate/lines.py")),
     Step("flake8", "flake8 finds no fault in the Python files", ("flake8", "--config", "tools/gate/flake8.ini", ".", "ducat", "bench/command", "bench/corpus", "oracle/faults-port"), ("flake8",)),
-    # rt ci is the verdict. It waits for all of a batch before it starts the next, so batches of four keep two processors busier than batches of two. Batches
-    # of eight, which hold a whole level, took no less time and more memory (docs/landings/base-16.md).
+    # rt ci is the verdict. It waits for all of a batch before it starts the next, so batches of four keep two processors busier than batches of two. With
+    # batches of eight, which hold a whole level, no gain showed (docs/landings/base-16.md).
     Step(
         "proofs",
         "rt ci: every crate is proved again, every program is run",
