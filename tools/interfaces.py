@@ -55,6 +55,11 @@ def constant(name):
     return re.sub(r"(?<!^)([A-Z])", r"_\1", name).upper()
 
 
+def constant_name(name):
+    """pos_only as PosOnly."""
+    return "".join(word.capitalize() for word in name.split("_"))
+
+
 def in_c(words):
     """Words as they may be in a comment or a string of C."""
     if re.search(r'\*/|/\*|["\\]', words):
@@ -233,7 +238,7 @@ def versions():
             "bindings/raw/Cargo.toml": re.search(r'^version = "(.*)"$', (RAW / "Cargo.toml").read_text(), re.M),
             "python/ducatmuffin/__init__.py": re.search(r'^__version__ = "(.*)"$', (PYTHON / "__init__.py").read_text(), re.M)}
     told = [fault(f"{path}: the version is not {version}") for path, found in held.items() if not found or found[1] != version]
-    defined = re.search(r"^version = versionOf (\d+) (\d+) (\d+)$", (CRATES / "starlark_checks" / "specs" / "Version.antt").read_text(), re.M)
+    defined = re.search(r"^version = version_of (\d+) (\d+) (\d+)$", (CRATES / "starlark_checks" / "specs" / "Version.antt").read_text(), re.M)
     if not defined or ".".join(defined.groups()) != version:
         told.append(fault(f"crates/starlark_checks/specs/Version.antt: the version is not {version}"))
     return told
@@ -266,10 +271,11 @@ def code_value(code, name):
 
 def stored():
     """The faults of modes and shapes: their bytes are those of the definitions."""
-    modes = re.findall(r"^mode(\w+) = (\d+)$", (CRATES / "deflist" / "specs" / "Unpack.antt").read_text(), re.M)
+    modes = re.findall(r"^mode_(\w+) = (\d+)$", (CRATES / "deflist" / "specs" / "Unpack.antt").read_text(), re.M)
+    modes = [(constant_name(name), byte) for name, byte in modes]
     forms = (CRATES / "types" / "specs" / "Forms.antt").read_text()
-    shapes = [row for row in re.findall(r"^shapeOf (\w+) = (\d+)$", forms, re.M) if row[0] not in ("List", "Other")]
-    shapes += [("List", re.search(r"^listShape = (\d+)$", forms, re.M)[1])]
+    shapes = [row for row in re.findall(r"^shape_of (\w+) = (\d+)$", forms, re.M) if row[0] not in ("List", "Other")]
+    shapes += [("List", re.search(r"^list_shape = (\d+)$", forms, re.M)[1])]
     told = []
     for what, cases, found in (("modes", MODES, modes), ("shapes", SHAPES, shapes)):
         if sorted((int(byte), name) for name, byte in found) != list(enumerate(cases, 1)):

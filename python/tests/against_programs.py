@@ -6,7 +6,7 @@ The inputs: every sample, every cut of samples/take.table, and 300 damaged files
 starlark_check_file. Figures are compared over joins of samples and damaged files, over every 16th cut of one, and over joins around the size of
 the program's buffer. --quick takes every 40th cut and 20 damaged files.
 
-A program is what `rt` has built in target/bin, run by the kit's loader, and by its emulator where the machine is not x86-64.
+A program is what `rt ci` has built, crates/NAME/out/NAME.
 Exit status: 0 they agree; 1 they do not; 3 skipped: rt or a program is missing.
 """
 import os
@@ -26,13 +26,9 @@ from ducatmuffin.library import Refusal  # noqa: E402
 DAMAGED = 300
 
 
-def loader():
-    """The words that run a program of the kit."""
-    guide = subprocess.run(["rt", "doc"], stdout=subprocess.PIPE, check=True).stdout.decode().strip()
-    toolchain = os.path.join(os.path.dirname(os.path.dirname(guide)), "on", os.uname().machine, "toolchain")
-    emulator = os.path.join(toolchain, "bin", "qemu-x86_64")
-    words = [emulator] if os.access(emulator, os.X_OK) else []
-    return [*words, os.path.join(toolchain, "lib", "ld-linux-x86-64.so.2"), "--library-path", os.path.join(toolchain, "lib")]
+def built(name):
+    """The path of a program that rt has built."""
+    return os.path.join(support.ROOT, "crates", name, "out", name)
 
 
 def damaged(many):
@@ -107,7 +103,7 @@ def lines_of(answer):
 
 class Comparison:
     def __init__(self, room, quick):
-        self.room, self.quick, self.faults, self.run_by = room, quick, [], loader()
+        self.room, self.quick, self.faults = room, quick, []
 
     def put(self, name, data):
         path = os.path.join(self.room, name)
@@ -116,8 +112,7 @@ class Comparison:
         return path
 
     def program(self, name, *words, stdin=subprocess.DEVNULL):
-        ran = subprocess.run([*self.run_by, os.path.join(support.ROOT, "target", "bin", name), *words], stdin=stdin,
-                             stdout=subprocess.PIPE, stderr=subprocess.PIPE)
+        ran = subprocess.run([built(name), *words], stdin=stdin, stdout=subprocess.PIPE, stderr=subprocess.PIPE)
         return ran.stdout, ran.stderr
 
     def fault(self, words):
@@ -199,7 +194,7 @@ class Comparison:
 
 def main():
     missing = [] if shutil.which("rt") else ["rt"]
-    missing += [name for name in ("tablecheck", "tablerescue", "tablefigures") if not os.path.exists(os.path.join(support.ROOT, "target", "bin", name))]
+    missing += [name for name in ("tablecheck", "tablerescue", "tablefigures") if not os.path.exists(built(name))]
     if missing:
         print(f"against_programs: skipped: {' and '.join(missing)} missing")
         return 3

@@ -18,7 +18,7 @@ DOCUMENTS = ["README.md", "samples/README.md", *(f"docs/{name}.md" for name in (
                                                                               "JSON", "PROOFS", "RULES"))]
 PATH = re.compile(r"^[\w./+-]+\.(?:antt|rt|py|txt|tsv|md|h|c|rs|list|sha256)$")
 # a name that only code can mean: with an inner hyphen or underscore, with a capital after a small letter, or a path of names
-NAME = re.compile(r"(?=.*(?:\w[-_]\w|[a-z][A-Z]|\w::\w))[^\W\d_][\w′]*(?:(?:-|::)[\w′]+)*")
+NAME = re.compile(r"(?=.*(?:\w[-_]\w|[a-z][A-Z]|\w::\w))[^\W\d_][\w']*(?:(?:-|::)[\w']+)*")
 
 
 def found(path, folder):
@@ -51,7 +51,7 @@ def cited(text):
 
 # words of that form that the repository does not define
 KNOWN = {
-    "getD",  # of the kit's library
+    "get_or",  # of the kit's library
     "param_count",  # of the published crate
     "tracks_north",  # a variable of a script
     "as-script",  # a line of ducat.ini
@@ -99,7 +99,7 @@ def in_c(text):
 
 def in_words(text):
     """The words of a text without definitions: a list of cases, a table."""
-    return re.findall(r"[\w′-]+", text)
+    return re.findall(r"[\w'-]+", text)
 
 
 # files that are lists of names: the crates, the steps, the hooks, the numbers
@@ -124,7 +124,7 @@ def anywhere():
     names = {name for file in LISTS for name in in_words((ROOT / file).read_text())}
     for folder in ("crates", "include", "bindings", "python", "tools", "oracle"):
         for path in sorted((ROOT / folder).rglob("*")):
-            if "target" not in path.parts:
+            if not {"target", "out"} & {*path.relative_to(ROOT).parts}:
                 names |= {path.name, *(defined(path) if path.suffix in READ else ())}
     return names
 

@@ -2,8 +2,10 @@
 
 It reads what rt fmt lays out and stops (Unread) at what it does not know, so that nothing is passed over in silence.
 """
+import functools
 import re
 
+import repository
 from reports import fault
 
 
@@ -16,6 +18,7 @@ TOKEN = re.compile(r"\[\]|[()\[\]{},]|[^\s()\[\]{},]+")
 # how a function begins: its visibility, the words before fn, its name
 FUNCTION = re.compile(r'^( *)(pub(?:\([^)]*\))? )?((?:const |unsafe |extern "[^"]*" )*)fn (\w+)', re.M)
 NUMBERS = {"u8", "u16", "u32", "u64", "usize", "i32", "i64"}
+RESERVED = {"record", "ruleset", "data", "open", "abbrev", "unfold", "where", "with"}  # words of the logic: as a name they are written in «»
 
 
 def tokens(text):
@@ -24,7 +27,7 @@ def tokens(text):
 
 def spelled(words):
     """Tokens as text, with the spaces that a reader expects."""
-    text = " ".join(words)
+    text = re.sub(r"([)\]}]) (?=\.[^\W\d])", r"\1", " ".join(words))
     return re.sub(r" ([)\]},])", r"\1", re.sub(r"([(\[{]) ", r"\1", text))
 
 
@@ -48,13 +51,13 @@ class Function:
     """A function: its parameters (name, type), the type of its answer, its contract (word, text), its body, and the words above it."""
 
     def __init__(self, source, head, holder):
-        code, at = source.code, source.code.index("(", head.end())
+        code, at = source.code, past_generics(source.code, head.end())
         self.source, self.name, self.holder = source, head[4], holder
         self.public = head[2] == "pub " or "extern" in head[3]
         end = closing(code, at)
         self.parameters = [parameter(words, holder) for words in split_at_commas(code[at + 1:end - 1])]
         given = re.compile(r"\s*(?:->\s*((?:\[[^\]]*\]|[^{;\[])+?))?\s*(?=\{|;|requires\b|ensures\b|$)").match(code, end)
-        clause = re.compile(r"\s*(requires|ensures)\s*(?=\{)")
+        clause = re.compile(r"\s*(requires|ensures)(?: (\w+))?\s*(?=\{)")
         if not given:
             raise Unread(fault(f"{self.name}: the text after its parameters"))
         self.answer, at, self.clauses = given[1] and given[1].strip(), given.end(), []
@@ -89,18 +92,36 @@ class Source:
         if len(self.functions) != len(re.findall(r"\bfn\s+\w", self.code)):
             raise Unread(fault(f"{crate}/{file} has a function that does not begin its line as rt fmt has it"))
         self.ghosts = imports(re.findall(r"^ghost use ([^;]+);", self.code, re.M))
+        trees = re.findall(r"^(?:pub )?use ([^;]+);", self.code, re.M)
+        self.uses = {name: path for tree in trees for name, path in paths_of(tree)}
 
     def holder_at(self, place):
         return next((name for name, begin, end in self.impls if begin < place < end), None)
 
     def type_module(self, name):
         """The module of the logic in which a type of this file is declared."""
-        for path in re.findall(rf"^use ((?:\w+::)*){name};", self.code, re.M):
-            crate, *inner = path.split("::")[:-1]
-            if crate != "crate":
-                return ".".join([f"Rattle·{crate}.specs.declared", *inner, name])
-            return ".".join([f"Rattle·{self.crate}·specs.specs.declared", *inner, name])
-        return ".".join([f"Rattle·{self.crate}·specs.specs.declared", *self.modules, name])
+        crate, *inner = self.uses.get(name, ["crate", *self.modules])
+        return ".".join([f"Rattle.{self.crate if crate == 'crate' else crate}.specs.declared", *inner, name])
+
+
+def past_generics(code, at):
+    """The place of the bracket that opens a function's parameters, after its type parameters."""
+    at = re.compile(r"\s*").match(code, at).end()
+    depth = 0
+    while code[at:at + 1] != "(" or depth:
+        depth += (code[at] == "<") - (code[at] == ">" and code[at - 1] != "-")
+        at += 1
+    return at
+
+
+def paths_of(tree, above=()):
+    """What a `use` of code brings: each name with the modules that it is in, the crate first."""
+    path, opened, inner = tree.strip().partition("{")
+    *modules, last = [word.strip() for word in path.split("::")]
+    if not opened:
+        there, _, here = last.partition(" as ")
+        return [((here or there).strip(), [*above, *modules])]
+    return [pair for part in split_at_commas(inner.rpartition("}")[0]) for pair in paths_of(part, [*above, *modules])]
 
 
 def split_at_commas(text):
@@ -148,6 +169,25 @@ def imports(clauses):
     return found
 
 
+kit = functools.cache(repository.Kit)
+
+
+@functools.cache
+def passed_on(module):
+    """The names that a module of the kit passes on, each with where it takes it from; none of another module."""
+    crate, *rest = module.removeprefix("Rattle.").split(".")
+    if not module.startswith("Rattle.") or (repository.CRATES / crate).is_dir():
+        return {}
+    path = kit().home.joinpath("rlibs", f"{crate}.rlib", "lang", "antt", *rest).with_suffix(".antt")
+    return imports(re.findall(r"^pub use (.+)$", path.read_text() if path.is_file() else "", re.M))
+
+
+def home_of(module, name):
+    """Where a name is defined that a module of the kit passes on, as Rattle.std.specs.Prelude does; else the module itself with the name."""
+    found = passed_on(module).get(name)
+    return home_of(*found) if found else (module, name)
+
+
 def logic_type(kind):
     """A type of the source as the logic writes it."""
     kind = re.sub(r"^&(?:'\w+ )?(?:mut )?", "", kind)
@@ -163,26 +203,23 @@ def logic_type(kind):
 
 def quoted(name):
     """A name of the source as the logic writes it."""
-    return f"«{name}»" if "_" in name else name
+    return f"«{name}»" if name in RESERVED else name
+
+
+# a name with what it is at: `b.now` of a `&`, `b.old` and `b.new` of a `&mut`
+STANDS = re.compile(r"(?<![^\s(,\[{])([^\W\d]\w*|«\w+»)(?:\.entry\.now|\.(now|old|new))(?![\w'])")
+RESULT = re.compile(r"(?<![^\s(,\[{])result(?:\.now)?(?![\w'])")
 
 
 def said(clause, answer, exit_of):
-    """What an 'ensures' says about an answer, as tokens: a `&mut` parameter by its name, at exit as given by exit_of, the answer by the given name."""
-    parts = re.fullmatch(r"λ (\S+)\. ⌜(.*)⌝", clause, re.S)
-    if not parts:
-        raise Unread(fault(f"the clause '{clause}' is no ⌜fact⌝ of an answer"))
-    text = re.sub(rf"\(now {parts[1]}\)|(?<!\S)now {parts[1]}(?!\S)", parts[1], parts[2])
-    text = re.sub(rf"(?<![^\s(]){re.escape(parts[1])}(?=[\s).]|$)", answer, text)
-    now = r"now \((\S+) \.(entry|exit)\)"
-    text = re.sub(rf"\({now}\)|{now}", lambda m: standing(m[1] or m[3], m[2] or m[4], exit_of), text)
-    words = tokens(text)
-    if {"now", ".entry", ".exit"} & set(words):
-        raise Unread(fault(f"the clause '{clause}' speaks of 'now' in another way"))
-    return words
-
-
-def standing(name, when, exit_of):
-    return name if when == "entry" else exit_of(name)
+    """What an 'ensures' says about an answer, as tokens: the parameter behind a reference by its name, a `&mut` at exit as given by exit_of, the answer
+    by the given name."""
+    if "⌜" in clause:
+        raise Unread(fault(f"the clause '{clause}' is no fact of an answer"))
+    text = RESULT.sub(answer, clause)
+    if any({"now", "old", "new", "entry", "exit"} & set(word.split(".")[1:]) for word in tokens(STANDS.sub("", text))):
+        raise Unread(fault(f"the clause '{clause}' speaks of a parameter's value in another way"))
+    return tokens(STANDS.sub(lambda m: exit_of(m[1]) if m[2] == "new" else m[1], text))
 
 
 class ProofFile:

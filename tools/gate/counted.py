@@ -38,8 +38,8 @@ def version():
 
 
 def how_many(path):
-    """The number of rows that a theorem `how-many` states."""
-    found = re.search(r"how-many : .* ≡ (\d+)$", (ROOT / path).read_text(), re.M)
+    """The number of rows that a theorem `how_many_lem` states."""
+    found = re.search(r"how_many_lem : .* ≡ (\d+)$", (ROOT / path).read_text(), re.M)
     return int(found[1]) if found else 0
 
 

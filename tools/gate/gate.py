@@ -2,7 +2,7 @@
 """The gate, started by ./test: proves every crate again, tries every wrong answer, runs every program, test and comparison.
 
 gate.py             every step. Prints first what is missing on this machine and which steps are skipped for that
-gate.py NAME...     only these steps, with what is in target/
+gate.py NAME...     only these steps, with what earlier steps have made
 gate.py --list      the names of the steps, with what each shows
 
 STEPS lists every step once. .ci/steps lists their names a second time: a step that is in only one of the lists fails the run, so that
@@ -31,10 +31,10 @@ PUBLISHED = ROOT.parent / "shared" / "docs" / "src" / "src" / "lib.rs"
 # No step runs on a library that the environment names: it might not be proved.
 ENVIRONMENT = {name: value for name, value in os.environ.items() if not name.startswith("DUCAT")}
 
-# Where a step runs. FIRST: what needs no proof and takes seconds. PROOFS: rt ci, which removes target/. BESIDE: the library for this machine
-# and what runs it, one step after the other, beside WRONG: the wrong answers.
+# Where a step runs. FIRST: what needs no proof and takes seconds. PROOFS: rt ci. BESIDE: the library for this machine and what runs it, one step
+# after the other. WRONG: the wrong answers.
 FIRST, PROOFS, BESIDE, WRONG = "first", "proofs", "beside", "wrong"
-LANES = (FIRST, PROOFS, WRONG, BESIDE)  # the order in which results are printed
+LANES = (FIRST, PROOFS, BESIDE, WRONG)  # the order in which steps run
 
 # What a step may need besides rt and Python: how it is called, and whether it is here.
 NEEDS = {tool: (tool, lambda tool=tool: shutil.which(tool) is not None) for tool in ("cc", "rustc", "cargo", "nm", "dpkg-deb", "flake8", "chromium", "chromedriver")}
@@ -66,7 +66,6 @@ STEPS = [
     Step("gate", "the gate reports a step that fails, is missing, or skips itself without a reason", python("tools/tests/try_gate.py")),
     Step("try-checks", "every check script reports a planted fault for each message that it can give", python("tools/tests/try_checks.py")),
     Step("promises", "every public function has a contract, a theorem and wrong answers", python("tools/gate/promises.py")),
-    Step("layout", "rt fmt would change no file", ("rt", "fmt", "--check")),
     Step("numbers", "the numbers, rules and kinds in documents, code, definitions and interfaces agree", python("tools/gate/numbers.py")),
     Step("prototypes", "header, package and wrapper have the functions, constants and fields of the code", python("tools/gate/prototypes.py")),
     Step("format", "docs/FORMAT.md agrees with code and definitions, and its example is the sample", python("tools/gate/format.py")),
@@ -95,14 +94,13 @@ STEPS = [
     Step("counted", "every count in the documents is written by the tool that counts", python("tools/gate/counted.py")),
     Step("statements", "docs/STATEMENTS.md has the statements of the crate statements, and every theorem that is named is restated", python("tools/gate/statements_page.py", "--check")),
     Step("imports", "no file has an unused import", python("tools/gate/imports.py")),
-    Step("lines", "line length, `.before` chains and the length of laws are within their limits", python("tools/gate/lines.py")),
+    Step("lines", "line length, chains of numbers and of `.before`, and the length of laws are within their limits", python("tools/gate/lines.py")),
     Step("flake8", "flake8 finds no fault in the Python files", ("flake8", "--config", "tools/gate/flake8.ini", ".", "ducat", "bench/command", "bench/corpus", "oracle/faults-port"), ("flake8",)),
-    # rt ci is the verdict. It waits for all of a batch before it starts the next, so batches of four keep two processors busier than batches of two. With
-    # batches of eight, which hold a whole level, no gain showed (docs/landings/base-16.md).
+    # rt ci is the verdict
     Step(
         "proofs",
-        "rt ci: every crate is proved again, every program is run",
-        ("env", "RT_JOBS=" + os.environ.get("RT_JOBS", "4"), "rt", "ci"),
+        "rt ci: every crate is proved, every edit of must-fail is refused, every program is run, and rt fmt would change no file",
+        python("tools/gate/proofs.py"),
         lane=PROOFS,
         counts=r"(\d+) passed, (\d+) failed",
     ),
@@ -331,13 +329,12 @@ class Gate:
         if ahead:
             self.finish(ahead)
         with tempfile.TemporaryDirectory() as folder:
+            # some of these steps measure time, so the wrong answers, which keep every processor busy, come after them
             room, results = pathlib.Path(folder), {}
-            beside = threading.Thread(target=self.run_beside, args=(room, results))
-            beside.start()
+            self.run_beside(room, results)
+            self.report_beside(room, results)
             for step in self.lane(WRONG):
                 self.run(step)
-            beside.join()
-            self.report_beside(room, results)
         for step in self.steps:
             if step.name not in self.ended:
                 self.fail(fault(f"the step {step.name} was not run"))
@@ -376,7 +373,7 @@ def main(words):
         end_on_signals(gate)
         gate.run_some(words)
         return gate.last_lines()
-    with tempfile.TemporaryFile("w+") as log:  # rt ci removes target/
+    with tempfile.TemporaryFile("w+") as log:
         gate = Gate(STEPS, log=log)
         end_on_signals(gate)
         gate.run_all(required(), ("nice", "oracle/compare", "--prepare"))

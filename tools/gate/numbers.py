@@ -36,9 +36,9 @@ def capitals(name):
     return "".join(word.capitalize() for word in name.split("_"))
 
 
-def camel(name):
-    """SLASH_FIRST as slashFirst."""
-    return name[0].lower() + capitals(name)[1:]
+def snake(name):
+    """IfElse as if_else; FString as fstring."""
+    return re.sub(r"([a-z0-9])([A-Z])", r"\1_\2", name).lower()
 
 
 def said_of(path, pattern):
@@ -80,7 +80,7 @@ def of_numbers():
     code = said_of("table/src/numbers.rt", r"^pub const (\w+): u32 = (\d+);")
     if code != table:
         faults.append(fault(f"crates/table/src/numbers.rt {difference(table, code)}"))
-    definitions, specs = [(number, camel(name)) for number, name in table], said_of("table/specs/Numbers.antt", r"^(\w+) = (\d+)$")
+    definitions, specs = [(number, name.lower()) for number, name in table], said_of("table/specs/Numbers.antt", r"^(\w+) = (\d+)$")
     if specs != definitions:
         faults.append(fault(f"crates/table/specs/Numbers.antt {difference(definitions, specs)}"))
     given = given_by_jobs()
@@ -100,10 +100,11 @@ def of_numbers():
 def of_kinds():
     """The faults of the kinds' numbers."""
     code = said_of("soundness/src/kinds.rt", r"^pub const (\w+): u8 = (\d+);")
-    specs = said_of("soundness/specs/KindNumbers.antt", r"^kind(\w+) = (\d+)$")
+    specs = said_of("soundness/specs/KindNumbers.antt", r"^kind_(\w+) = (\d+)$")
     words, faults = [(number, word) for word, number in tables.KIND.items()], []
-    if specs != words:
-        faults.append(fault(f"crates/soundness/specs/KindNumbers.antt {difference(words, specs)}"))
+    definitions = [(number, snake(word)) for number, word in words]
+    if specs != definitions:
+        faults.append(fault(f"crates/soundness/specs/KindNumbers.antt {difference(definitions, specs)}"))
     classes = {number: kind.own for number, kind in kinds.read((kinds.FOLDER / "sentences.txt").read_text()).items()}
     table = [tuple(line.split("\t")) for line in (ROOT / "docs" / "kinds.tsv").read_text().splitlines()]
     wanted = [("number", "name", "class")] + [(str(n), word, classes[n]) for n, word in words]

@@ -13,6 +13,9 @@ A function is public if it is 'pub fn' or 'extern'. For each, in a library or a 
 
 A private function of a library must have a promise too.
 
+A public function of a static library only passes on a function of another crate: its body is one call with its own parameters in their order, and its
+contract has the same clauses, token by token. So the theorem and the wrong answers are those of the called function, which has all of the above.
+
 A crate without code has wrong answers as well: two edits or more, each in definitions of its specs/ (of `statements`, which has none, in its
 statements), and docs/PROMISES.md lists them.
 
@@ -130,7 +133,7 @@ class Promise:
 
     def __init__(self, function):
         self.function, self.source = function, function.source
-        self.theorem = function.name.strip("_").replace("_", "-") + "-one"
+        self.theorem = function.name.strip("_") + "_one"
         self.buffers = [name for name, kind in function.parameters if re.match(r"&(?:'\w+ )?mut ", kind)]
         self.ensures = [text for word, text in function.clauses if word == "ensures"]
 
@@ -145,7 +148,7 @@ class Promise:
         for word in (word for words in self.of("r") for word in words):
             name = word.partition(".")[0]
             if name and name not in known and not re.fullmatch(r"[()\[\]{},]|\d+", name):
-                where = next((n for n in (name, f"_{name}_") if n in self.source.ghosts), None)
+                where = next((n for n in (name, f"◌{name}◌") if n in self.source.ghosts), None)
                 if not where:
                     raise Unread(fault(f"the name {name} in its contract"))
                 cited[where] = self.source.ghosts[where]
@@ -234,8 +237,8 @@ def record_of(module, name):
 
 def specs_file(module):
     """The crate and the file of its specs that a module of the logic is; none of the library's."""
-    found = re.fullmatch(r"Rattle·(\w+)(?:·specs)?\.specs\.(.+)", module)
-    return (found[1], found[2].replace(".", "/")) if found else (None, module)
+    found = re.fullmatch(r"Rattle\.(\w+)\.specs\.(.+)", module)
+    return (found[1], found[2].replace(".", "/")) if found and (repository.CRATES / found[1]).is_dir() else (None, module)
 
 
 def divided(words, mark):
@@ -281,7 +284,7 @@ def faults_of(crate, promise):
         yield fault("it returns nothing and changes no buffer")
     if promise.ensures:
         for name, (module, _) in promise.definitions().items():
-            if "·proofs" in module or ".proofs." in module:
+            if re.match(r"Rattle\.\w+\.proofs\b", module):
                 yield fault(f"its promise cites {name} of a proof")
         yield from theorem_faults(crate, promise)
     own = crate.own_edits(function)
@@ -300,13 +303,13 @@ def theorem_faults(crate, promise):
         return
     if stands != contracts.tokens(statement.partition(" : ")[2]):
         yield fault(f"its contract gives '{statement}', but its theorem says '{contracts.spelled(stands)}'")
-    wanted = {**promise.definitions(), **promise.types(), "_≡_": ("mathlib.Core.Path", "_≡_")}
+    wanted = {**promise.definitions(), **promise.types(), "◌≡◌": ("mathlib.Core.Path", "◌≡◌")}
     library = {"ℕ": "Prim.Native.Nat", "List": "mathlib.Core.List", "Bool": "mathlib.Core.Bool"}
     wanted.update((name, (module, name)) for name, module in library.items() if name in contracts.tokens(statement))
     for name, (module, there) in wanted.items():
         if name in crate.theorems.defined:
             yield fault(f"proofs/Promises.antt defines {name} itself")
-        elif crate.theorems.imports.get(name) != (module, there):
+        elif contracts.home_of(*crate.theorems.imports.get(name, ("", name))) != contracts.home_of(module, there):
             yield fault(f"proofs/Promises.antt does not take {name} from {module}")
 
 
@@ -314,6 +317,10 @@ def faults(crates, promises):
     """Every fault, one in a line."""
     for crate in crates:
         of_crate = [promise for promise in promises if promise.source.crate == crate.name]
+        if repository.is_static(crate.name):
+            yield from static_faults(crate, crates)
+            yield from edit_faults(crate)
+            continue
         for promise in of_crate:
             try:
                 for words in faults_of(crate, promise):
@@ -324,12 +331,44 @@ def faults(crates, promises):
         for name in sorted({name for name in names if names.count(name) > 1}):
             yield fault(f"{crate.name}: {name} would be the theorem of several functions")
         for name in crate.theorems.statements:
-            if name.endswith("-one") and name not in names:
+            if name.endswith("_one") and name not in names:
                 yield fault(f"{crate.name}: {name} in proofs/Promises.antt is the theorem of no public function")
         for function in crate.functions:
             if repository.is_library(crate.name) and not function.public and not function.promised:
                 yield fault(f"{crate.name}::{function.path}: it promises nothing")
         yield from edit_faults(crate)
+
+
+def static_faults(crate, crates):
+    """What is wrong with the functions of a static library, each of which passes on a function of another crate."""
+    there = {f"{other.name}::{function.path}": function for other in crates for function in other.public if not repository.is_static(other.name)}
+    for function in crate.functions:
+        body = " ".join(function.source.code[slice(*function.body)].split())
+        call = re.fullmatch(r"\{ (\w+(?:::\w+)+)\( ?(.*?),? ?\) \}", body)
+        own = [name for name, _ in function.parameters]
+        of = f"{crate.name}::{function.path}"
+        if not function.public:
+            yield fault(f"{of}: a static library has public functions alone")
+        elif not call or contracts.split_at_commas(call[2]) != own:
+            yield fault(f"{of}: its body is not one call with its own parameters in their order")
+        elif call[1] not in there:
+            yield fault(f"{of}: {call[1]} is no public function of a library here")
+        elif called_otherwise(function, there[call[1]]):
+            yield fault(f"{of}: its contract is not that of {call[1]}")
+
+
+def called_otherwise(function, called):
+    """Whether a function differs from the one that it calls in its parameters, its answer or a clause; names of clauses do not count."""
+    mine, its = ((one.parameters, one.answer, [(word, contracts.tokens(text)) for word, text in one.clauses]) for one in (function, called))
+    cited = {word.partition(".")[0] for _, words in mine[2] for word in words}
+    cited |= {f"◌{name}◌" for name in cited}  # as a source imports an operator
+    ghosts, others = function.source.ghosts, called.source.ghosts
+    return mine != its or any(home(ghosts.get(name)) != home(others.get(name)) for name in cited if name in ghosts or name in others)
+
+
+def home(where):
+    """Where a name that a source imports is defined."""
+    return where and contracts.home_of(*where)
 
 
 def edit_faults(crate):
@@ -358,6 +397,12 @@ def table(crates, promises):
             lines += [f"## {crate.name}", "", f"No code. The wrong answers of {crate.name}, in its definitions:", ""]
             lines += [edit_line(label, edit, touched) for label, (edit, touched) in crate.edits.items()]
             lines.append("")
+        if repository.is_static(crate.name):
+            lines += [f"## {crate.name}", "", "Each function calls one of another crate with its own parameters, and has its promise: "
+                      f"{', '.join(f'`{function.path}`' for function in crate.public)}.", ""]
+            if crate.edits:
+                lines += [f"The wrong answers of {crate.name}:", "", *(edit_line(label, edit, touched) for label, (edit, touched) in crate.edits.items()), ""]
+            continue
         if not of_crate:
             continue
         lines += [f"## {crate.name}", "", "| Function | What it answers | Promise | Definitions | Wrong answers | One answer |"]
@@ -378,7 +423,7 @@ def edit_line(label, edit, touched):
 def row(crate, promise):
     """A function's line of the table."""
     try:
-        said = "<br>".join(f"`{contracts.spelled(words)}`" for words in promise.of("r", lambda name: f"{name}.exit"))
+        said = "<br>".join(f"`{contracts.spelled(words)}`" for words in promise.of("r", lambda name: f"{name}.new"))
         names = cited(crate, promise)
     except Unread:
         said = names = "not read"
@@ -393,7 +438,7 @@ def cited(crate, promise):
     """The definitions that a contract cites, by crate and file of its specs; the library's by its name. Signs are left out."""
     files = {}
     for name, (module, there) in promise.definitions().items():
-        if re.match(r"[\w«]", name) and not name.startswith("_"):
+        if re.match(r"[\w«]", name):
             home, file = specs_file(module)
             where = "library" if not home else file if home == crate.name else f"{home} {file}"
             files.setdefault(where, []).append(f"`{there}`")

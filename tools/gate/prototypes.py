@@ -3,7 +3,7 @@
 
 prototypes.py    reports whether they agree (exit status 1 if not)
 
-- The functions of include/starlark.h have the parameters of crates/starlark_checks/src/lib.rt: their names and types, in order. A slice is a
+- The functions of include/starlark.h have the parameters of crates/starlark_checks_c/src/lib.rt: their names and types, in order. A slice is a
   pointer and a length. tools/interfaces.py compares the header with the declarations for Rust.
 - The package's ctypes signatures have the same types, and its methods pass the numbers (node, call, def, zone, ...) in the code's order. So
   do the calls of bindings/rust/src/interface.rs.
@@ -23,7 +23,7 @@ sys.path[:0] = [str(ROOT / "python"), str(ROOT / "tools")]
 import interfaces  # noqa: E402
 from ducatmuffin import library  # noqa: E402
 
-CODE = CRATES / "starlark_checks" / "src" / "lib.rt"
+CODE = CRATES / "starlark_checks_c" / "src" / "lib.rt"
 WRAPPER = ROOT / "bindings" / "rust" / "src" / "interface.rs"
 PACKAGE = ROOT / "python" / "ducatmuffin" / "library.py"
 PAGE = ROOT / "docs" / "FORMAT.md"
@@ -200,13 +200,13 @@ def constants():
     wanted = {
         "ACCEPTED": int(found_in("starlark_checks/specs/Words.antt", r"^number \(accepted vs\) = (\d+)$")),
         "NONE": int(found_in("starlark_checks/src/lib.rt", r"^        Place::Nothing => (0x[\dA-F_]+),$"), 16),
-        "WORDS": int(found_in("starlark_checks/src/lib.rt", r"^pub extern .*out: &mut \[u32; (\d+)\]\)")),
+        "WORDS": int(found_in("starlark_checks_c/src/lib.rt", r"^pub extern .*out: &mut \[u32; (\d+)\]\)")),
         "FIGURES": number("figures/src/lib.rt", "FIGURES"),
         "MOST_FILES": number("figures/src/lib.rt", "MOST_FILES"),
         "FILE_BYTES": largest,
         "WINDOW_BYTES": largest,
-        "ERRORS": nodes * int(found_in("validate/proofs/Theorems.antt", r"pub errors-few : .* ≤ (\d+) \* \(length t / 24\)$")),
-        "AUDIT_ERRORS": nodes * int(found_in("audit/proofs/Theorems.antt", r"pub errors-few : .* ≤ (\d+) \* \(length t / 24\)$")),
+        "ERRORS": nodes * int(found_in("validate/proofs/Theorems.antt", r"pub errors_few : .* ≤ (\d+) \* \(length t / 24\)$")),
+        "AUDIT_ERRORS": nodes * int(found_in("audit/proofs/Theorems.antt", r"pub errors_few : .* ≤ (\d+) \* \(length t / 24\)$")),
         "DIALECT_BYTES": len(interfaces.switches()),
     }
     for name, text in said.items():
@@ -297,7 +297,7 @@ def main(_):
     FAULTS.clear()
     code = of_code()
     if not code:
-        report(fault("crates/starlark_checks/src/lib.rt: no function is found"))
+        report(fault("crates/starlark_checks_c/src/lib.rt: no function is found"))
     header_functions(code)
     package_functions(code)
     wrapper_functions(code)

@@ -5,8 +5,8 @@ allowed, each old text on one line and in its file once when the pairs before it
 crate, 'function: ' if a constant is edited and the function that must be refused is named. Every other line is a comment.
 """
 import pathlib
-import platform
 import re
+import shutil
 import subprocess
 
 
@@ -22,17 +22,53 @@ HEAD = r"(?:pub(?:\(crate\))? )?(?:extern \"C\" )?fn "  # how a function begins
 
 def crates():
     """The crates of crates.txt in its order: name to the names of the crates that it uses directly."""
-    stands_on = {}
+    return {name: uses for name, _, uses in listed()}
+
+
+def listed():
+    """The lines of crates.txt: a crate's name, the words after it, such as `staticlib`, and the names of the crates that it uses directly."""
     for line in (ROOT / "crates.txt").read_text().splitlines():
-        name, mark, rest = line.partition("#")[0].partition(":")
+        head, mark, rest = line.partition("#")[0].partition(":")
         if mark:
-            stands_on[name.strip()] = rest.split()
-    return stands_on
+            name, *words = head.split()
+            yield name, words, rest.split()
+
+
+def with_below(names):
+    """Some crates and all that are below them."""
+    every = crates()
+    found = set(names) & set(every)
+    while more := {below for name in found for below in every[name]} & set(every) - found:
+        found |= more
+    return found
+
+
+def copy_crates(room, names):
+    """Copies to a folder what rt reads of some crates and those below them, but for edits. It is a repository of these crates alone, so a plain
+    `rt ci` there tries only them."""
+    wanted = with_below(names)
+    lines = (ROOT / "crates.txt").read_text().splitlines(keepends=True)
+    (room / "crates.txt").write_text("".join(line for line in lines if not line.partition("#")[0].strip() or line.split()[0].rstrip(":") in wanted))
+    if (ROOT / "HANDLES").exists():
+        shutil.copy(ROOT / "HANDLES", room)
+    others = {"out", "wrong", "must-fail"}
+    for name in wanted:
+        shutil.copytree(CRATES / name, room / "crates" / name, ignore=lambda folder, inside: others & set(inside) if pathlib.Path(folder).parent == CRATES else ())
+
+
+def is_static(name):
+    """Whether a crate is a static library, which hands the functions of another crate to programs of another language."""
+    return any(name == one and "staticlib" in words for one, words, _ in listed())
 
 
 def is_library(name):
     """Whether a crate is a library (the others are programs)."""
     return (CRATES / name / "src" / "lib.rt").exists()
+
+
+def sources(*suffixes):
+    """The sources of all crates, in a fixed order; without what rt makes in crates/NAME/out."""
+    return sorted(path for path in CRATES.rglob("*") if path.suffix in suffixes and "out" not in path.relative_to(CRATES).parts)
 
 
 def has_code(name):
@@ -41,13 +77,12 @@ def has_code(name):
 
 
 class Kit:
-    """The kit's folder, and what it has for this machine."""
+    """The kit's folder, which `rt doc` names, and what is in it."""
 
     def __init__(self):
         guide = subprocess.run(["rt", "doc"], capture_output=True, text=True, check=True).stdout.strip()
-        self.home = pathlib.Path(guide).parent.parent
-        self.own = self.home / "on" / platform.machine()
-        self.toolchain = self.own / "toolchain"
+        self.home = pathlib.Path(guide).parent
+        self.toolchain = self.home / "toolchain"
 
 
 class BadEdit(Exception):

@@ -26,7 +26,7 @@ theorem that is named below it. Nothing is abbreviated: every hypothesis is an a
 theorem that assumed more or claimed less would not prove its statement (tools/gate/weaker.py tries that).
 
 Read `A → B` as "if A then B", `(x : A) →` as "for every x of A", `(x : A) ×` as "there is an x of A with", `×` as "and", `⊎` as "or",
-`↔` as "if and only if", `≡` as "is", `⊥` as "impossible". `getD l i 0` is number i of the list l, or 0 after its end.
+`↔` as "if and only if", `≡` as "is", `⊥` as "impossible". `get_or l i 0` is number i of the list l, or 0 after its end.
 """
 
 
@@ -53,7 +53,7 @@ def page():
         text = (FOLDER / f"{name}.antt").read_text()
         lines = text.split("\n")
         opening = lines[: next(i for i, l in enumerate(lines) if not l.startswith("--"))]
-        files = {alias: (crate, file) for crate, file, alias in re.findall(r"^use Rattle·(\w+)\.proofs\.(\w+) as (theorem\S*)$", text, re.M)}
+        files = {alias: (crate, file) for crate, file, alias in re.findall(r"^use Rattle\.(\w+)\.proofs\.(\w+) as (theorem\S*)$", text, re.M)}
         if len({crate for crate, _ in files.values()}) != 1:
             wrong.append(fault(f"{name}: it cites theorems of {len({crate for crate, _ in files.values()})} crates; tools/gate/weaker.py can try those of one"))
         out += [f"## {words(opening[:1]).capitalize() if words(opening[:1]).isupper() else words(opening[:1])}", "", words(opening[2:]), ""]
@@ -82,7 +82,7 @@ def page():
             out += [f"Proved by `{cited[0][1] if cited else ''}` of [crates/{crate}/proofs/{file}.antt](../crates/{crate}/proofs/{file}.antt).", ""]
             used |= set(re.findall(r"[^\s(){}.,]+", " ".join(lines[i:end])))
         where = {}
-        for m in re.finditer(r"^use Rattle·(\w+)\.(specs|proofs)\.([\w.-]+)\.\{([^}]*)\}", text, re.M):
+        for m in re.finditer(r"^use Rattle\.(\w+)\.(specs|proofs)\.([\w.-]+)\.\{([^}]*)\}", text, re.M):
             owner, part, module, names = m.groups()
             source = f"crates/{owner}/src" if module.startswith("declared.") else f"crates/{owner}/{part}/{module.replace('.', '/')}.antt"
             where.setdefault(source, []).extend(n for n in (x.split(" as ")[-1].strip() for x in names.split(",")) if n in used)
@@ -93,18 +93,18 @@ def page():
 
 
 # theorems of other kinds, each with its own page or step: of one answer (docs/PROMISES.md, tools/gate/promises.py)
-ONE_ANSWER = re.compile(r".*-one$|.*-injective$")
+ONE_ANSWER = re.compile(r".*_one$|.*_injective$")
 # crates whose theorems need no statement: closed instances of what theorems assume
 INSTANCES = {"Example.antt"}
 
 
 def unrestated():
     """The theorems that the documents name to users and no statement cites. Where the document names the file before
-    the theorem, that file's theorem must be restated; else one of that name."""
+    the theorem, that file's theorem must be restated; else one of that name. A function of such a name is named with its crate (`tablefile::judge_room`)."""
     restated, public = {}, {}
     for path in FOLDER.glob("*.antt"):
         text = path.read_text()
-        files = {alias: f"{crate}/proofs/{file}.antt" for crate, file, alias in re.findall(r"^use Rattle·(\w+)\.proofs\.(\w+) as (theorem\S*)$", text, re.M)}
+        files = {alias: f"{crate}/proofs/{file}.antt" for crate, file, alias in re.findall(r"^use Rattle\.(\w+)\.proofs\.(\w+) as (theorem\S*)$", text, re.M)}
         for alias, name in re.findall(r"(?<![^\s(])(theorem[^\s.()]*)\.([^\s()]+)", text):
             restated.setdefault(name, set()).add(files.get(alias))
     for path in sorted((ROOT / "crates").glob("*/proofs/*.antt")):
@@ -118,7 +118,7 @@ def unrestated():
                 seen.add(name)
                 if file in public.get(name, ()) and file not in restated.get(name, ()):
                     yield fault(f"{document.relative_to(ROOT)} names {name} of {file}, which no statement restates")
-        for name in dict.fromkeys(re.findall(r"`([a-z0-9]+(?:-[a-z0-9]+)+)`", text)):
+        for name in dict.fromkeys(re.findall(r"`([a-z0-9]+(?:[-_][a-z0-9]+)+)`", text)):
             if name in public and name not in restated and name not in seen and not ONE_ANSWER.fullmatch(name):
                 yield fault(f"{document.relative_to(ROOT)} names {name} of no file, as {min(public[name])} has it, which no statement restates")
 

@@ -1,15 +1,15 @@
 #!/usr/bin/env python3
 """Plants faults in the theorems that crates/statements cites, and checks that the statements then fail.
 
-weaker.py [MODULE...] [--records N] [--list] [--target DIR]
-    after rt check; MODULE is a file of crates/statements/proofs (all of them); DIR has the proved libraries (target)
+weaker.py [MODULE...] [--records N] [--list]
+    after rt ci; MODULE is a file of crates/statements/proofs (all of them)
 
 Rules for a module of `statements`: it cites theorems of one crate, each file of them imported 'as theorem' or 'as theorem-NAME'; it imports
 nothing from a crate above that one; every statement is proved by citing one theorem. A module that breaks a rule is reported and counts as bad.
 --list prints what each module cites, and which public theorems of these files no statement cites.
 
-The tool copies the crate of the theorems, puts the module beside its proofs, and checks the copy over the modules of the crate's library,
-so that only what changed is checked:
+The tool copies the theorems' crate and those below it out of the checkout, puts the module beside the proofs of that crate there, and has `rt ci`
+prove the copy. The crates below it are not proved again, since rt keeps what it has proved on this machine:
 1. all weakened conclusions at once. For each conjunct of each cited theorem a theorem is put after the right one, in which that conjunct is
    Unit, proved by citing the right one (so the copy is proved); and beside the statement a copy that cites it, which must be refused. Records
    and abbreviations in a conclusion are opened: a field of a record is a conjunct. For each theorem there is also one that assumes ⊥ in addition.
@@ -21,21 +21,18 @@ The last line is 'N of M faults refused, A by the statements and B by the crate 
 accepted.
 """
 import argparse
-import os
+import contextlib
 import pathlib
 import re
-import shutil
 import subprocess
 import sys
+import tempfile
 import time
 
 import repository
 from reports import fault
-from repository import CRATES, ROOT
+from repository import CRATES
 
-TARGET = ROOT / "target"
-WORK = TARGET / "weaker"
-KIT = repository.Kit()
 NOT_ADMITTED = "was not admitted"
 
 
@@ -80,6 +77,7 @@ def groups(text):
             i += 1
         elif text[i] in "({":
             end = i + closes(text[i:])
+            end += re.compile(r"(?:\.[^\s(){}]+)?").match(text, end + 1).end() - (end + 1)  # (f x).field is one
             found.append(text[i : end + 1])
             i = end + 1
         else:
@@ -123,10 +121,10 @@ def record_in(found, path, foreign=None):
 
 def from_outside(text, crate, path):
     """The imports of a file of a crate as another crate must write them, with the file's own public names."""
-    uses = [re.sub(rf"Rattle·{crate}·(specs|proofs)\.\1\.", rf"Rattle·{crate}.\1.", use) for use in re.findall(r"^use .*", text, re.M)]
+    uses = re.findall(r"^use .*", text, re.M)
     own = re.findall(r"^(?:unfoldable )?(?:abbrev )?pub (?:record |data )?(?!mod )([^\s:]+) ", text, re.M)
     part, *rest = path.relative_to(CRATES / crate).with_suffix("").parts
-    return [*uses, f"use Rattle·{crate}.{part}.{'.'.join(rest)}.{{{', '.join(own)}}}"]
+    return [*uses, f"use Rattle.{crate}.{part}.{'.'.join(rest)}.{{{', '.join(own)}}}"]
 
 
 class Crate:
@@ -134,7 +132,7 @@ class Crate:
 
     def __init__(self, name, folder):
         self.name, self.folder, self.records, self.abbrevs = name, folder, {}, {}
-        self.needs, self.known = set(), {"⊎-elim": "mathlib.Core.Logic", "inl": "mathlib.Core.Logic", "inr": "mathlib.Core.Logic"}
+        self.needs, self.known = set(), {"⊎_elim": "mathlib.Core.Logic", "inl": "mathlib.Core.Logic", "inr": "mathlib.Core.Logic"}
         for path in sorted([*(folder / "specs").rglob("*.antt"), *(folder / "proofs").rglob("*.antt")]):
             text = path.read_text()
             for module, names in re.findall(r"^use (\S+)\.\{([^}]*)\}", text, re.M):
@@ -142,7 +140,7 @@ class Crate:
             self.known.update({n: self.module(path) for n in re.findall(r"^(?:unfoldable )?(?:abbrev )?pub (?:record |data )?([^\s:]+) ", text, re.M) if n != "mod"})
             for m in re.finditer(RECORD, text, re.M):
                 self.records[m.group(1)] = record_in(m, path)
-            for below, part, file, names in re.findall(r"^use Rattle·(\w+)\.(specs|proofs)\.(\w+)\.\{([^}]*)\}", text, re.M):
+            for below, part, file, names in re.findall(r"^use Rattle\.(\w+)\.(specs|proofs)\.(\w+)\.\{([^}]*)\}", text, re.M):
                 there = CRATES / below / part / f"{file}.antt"
                 for m in re.finditer(RECORD, there.read_text() if there.is_file() else "", re.M):
                     if m.group(1) in [n.strip() for n in names.split(",")]:
@@ -154,13 +152,13 @@ class Crate:
 
     def module(self, path):
         part, *rest = path.relative_to(self.folder).with_suffix("").parts
-        return f"Rattle·{self.name}·{part}.{part}." + ".".join(rest)
+        return f"Rattle.{self.name}.{part}." + ".".join(rest)
 
 
 def put(text, names, args):
     """A text with arguments for names."""
     table = dict(zip(names, args))
-    return re.sub(r"(?<![^\s(){}])([^\s(){}]+)(?=[\s(){}]|$)", lambda m: wrapped(table[m.group(1)]) if m.group(1) in table else m.group(0), text)
+    return re.sub(r"(?<![^\s(){}])([^\s(){}.]+)((?:\.[^\s(){}]+)?)(?=[\s(){}]|$)", lambda m: wrapped(table[m.group(1)]) + m.group(2) if m.group(1) in table else m.group(0), text)
 
 
 def opened(crate, type_):
@@ -219,7 +217,7 @@ def theorems(text):
 
 
 # what holds for every entry of a list, with the law that maps it
-MAPS = {"All": "all-map", "Each": "each-map"}
+MAPS = {"All": "all_map", "Each": "each_map"}
 
 
 class Weak:
@@ -238,32 +236,32 @@ def weakened(crate, type_, x, label):
     sides = split(t, "↔")
     if len(sides) == 2:
         for k, (a, b) in enumerate([(sides[0], sides[1]), (sides[1], sides[0])]):
-            for w in weakened(crate, b, "z′", label):
+            for w in weakened(crate, b, "z'", label):
                 ways = [f"({wrapped(a)} → {w.type if ' ' not in w.type else wrapped(w.type)})", f"({wrapped(sides[1 - k])} → {wrapped(sides[k])})"]
-                terms = [f"(λ z. let z′ = {x} .{k} z in {w.term})", f"{x} .{1 - k}"]
+                terms = [f"(λ z. let z' = {x}.{k} z in {w.term})", f"{x}.{1 - k}"]
                 if k:
                     ways, terms = ways[::-1], terms[::-1]
                 yield Weak(" × ".join(ways), f"({', '.join(terms)})", f"{'←' if k else '→'} {w.what}", w.records)
         return
     sides = split(t, "⊎")
     if len(sides) == 2:
-        crate.needs |= {"⊎-elim", "inl", "inr"}
+        crate.needs |= {"⊎_elim", "inl", "inr"}
         for k in (0, 1):
-            for w in weakened(crate, sides[k], "y′", label):
+            for w in weakened(crate, sides[k], "y'", label):
                 both = [wrapped(s) for s in sides]
                 both[k] = wrapped(w.type)
-                arms = ["λ (y′ : %s). inl y′" % bare(sides[0]), "λ (y′ : %s). inr y′" % bare(sides[1])]
-                arms[k] = f"λ (y′ : {bare(sides[k])}). in{'lr'[k]} {wrapped(w.term)}"
-                yield Weak(" ⊎ ".join(both), f"⊎-elim ({arms[0]}) ({arms[1]}) {wrapped(x)}", f"in{'lr'[k]} {w.what}", w.records)
+                arms = ["λ (y' : %s). inl y'" % bare(sides[0]), "λ (y' : %s). inr y'" % bare(sides[1])]
+                arms[k] = f"λ (y' : {bare(sides[k])}). in{'lr'[k]} {wrapped(w.term)}"
+                yield Weak(" ⊎ ".join(both), f"⊎_elim ({arms[0]}) ({arms[1]}) {wrapped(x)}", f"in{'lr'[k]} {w.what}", w.records)
         return
     parts = split(t, "×")
     if len(parts) > 1:
         for k, part in enumerate(parts):
             if is_binder(part):
                 continue
-            for w in weakened(crate, part, f"{x} .{k}", label):
+            for w in weakened(crate, part, f"{x}.{k}", label):
                 types = [*parts[:k], wrapped(w.type), *parts[k + 1 :]]
-                terms = [f"{x} .{i}" if i != k else w.term for i in range(len(parts))]
+                terms = [f"{x}.{i}" if i != k else w.term for i in range(len(parts))]
                 yield Weak(" × ".join(types), f"({', '.join(terms)})", w.what, w.records)
         return
     head, *args = groups(t)
@@ -277,21 +275,21 @@ def weakened(crate, type_, x, label):
     m = re.fullmatch(r"\(λ (\S+)\. (.*)\)", args[0]) if head in MAPS and len(args) == 2 else None
     if m:
         crate.needs |= {head, MAPS[head]}
-        for w in weakened(crate, m.group(2), "a′", label):
-            yield Weak(f"{head} (λ {m.group(1)}. {w.type}) {args[1]}", f"{MAPS[head]} (λ {m.group(1)} (a′ : {m.group(2)}). {w.term}) {args[1]} {wrapped(x)}", f"{head}: {w.what}", w.records)
+        for w in weakened(crate, m.group(2), "a'", label):
+            yield Weak(f"{head} (λ {m.group(1)}. {w.type}) {args[1]}", f"{MAPS[head]} (λ {m.group(1)} (a' : {m.group(2)}). {w.term}) {args[1]} {wrapped(x)}", f"{head}: {w.what}", w.records)
         return
     if head in crate.records and len(crate.records[head].params) == len(args):
         r = crate.records[head]
         for k, (field, own) in enumerate(r.fields):
             later = " ".join(o for _, o in r.fields[k + 1 :])
-            if not is_claim(crate, own) or re.search(rf"(?<![^\s(]){re.escape(field)}(?![^\s)])", later):
+            if not is_claim(crate, own) or re.search(rf"(?<![^\s(]){re.escape(field)}(?![^\s).])", later):
                 continue  # a value, or a claim that a later field uses
             inner = bare(own).split(" ")[0]
-            ways = weakened(crate, own, f"{x} .{field}", label) if inner in crate.records and not r.foreign else [Weak("Unit {0}", "tt", f"{head}.{field}")]
+            ways = weakened(crate, own, f"{x}.{field}", label) if inner in crate.records and not r.foreign else [Weak("Unit {0}", "tt", f"{head}.{field}")]
             for w in ways:
                 name = f"{head}-{next(label)}"
                 copy = [(f, w.type if i == k else o) for i, (f, o) in enumerate(r.fields)]
-                terms = [f"{f} = {w.term if i == k else x + ' .' + f}" for i, (f, _) in enumerate(r.fields)]
+                terms = [f"{f} = {w.term if i == k else x + '.' + f}" for i, (f, _) in enumerate(r.fields)]
                 what = w.what if w.what.startswith(head) else f"{head}.{w.what}"
                 yield Weak(" ".join([name, *args]), f"record {{ {'; '.join(terms)} }}", what, [*w.records, (r, name, copy)])
         return
@@ -311,67 +309,40 @@ def clause(sig):
         if all(is_binder(g) for g in groups(item)):
             names += [x for g in groups(item) if g[0] == "(" for x in g[1:-1].split(" : ")[0].split()]
         else:
-            names.append(f"h′{n}")
+            names.append(f"h'{n}")
     return names, items
 
 
 # ---- a copy of a crate, and what the prover says about it
 
-def copy_of(name, label):
-    folder = WORK / name / label
-    shutil.rmtree(folder, ignore_errors=True)
-    for part in ("src", "specs", "proofs"):
-        if (CRATES / name / part).is_dir():
-            shutil.copytree(CRATES / name / part, folder / part)
-    return folder
+@contextlib.contextmanager
+def copy_of(name):
+    """A copy of a crate and those below it, outside of the checkout: the crate's folder there."""
+    with tempfile.TemporaryDirectory(prefix="weaker-") as room:
+        repository.copy_crates(pathlib.Path(room), [name])
+        yield pathlib.Path(room) / "crates" / name
 
 
 def check(name, folder):
-    """The errors that rattle reports for a crate in a folder: (file, declaration, text)."""
-    words = [str(KIT.own / "bin" / "rattle"), "check", "--crate-name", name, str(folder / "src" / "lib.rt")]
-    for crate in ["std", *repository.crates()[name]]:
-        words += ["--extern", f"{crate}={(Module.libraries if (CRATES / crate).is_dir() else KIT.own) / 'rlib' / crate}.rlib"]
-    words += ["-L", f"dependency={Module.libraries / 'rlib'}", "-L", f"dependency={KIT.own / 'rlib'}"]
-    words += ["--antt-project", str(KIT.home / "logic" / "antt-project.json"), "--logic-built", str(KIT.own / "logic-built")]
-    kept = folder.with_suffix(".kept")
-    shutil.rmtree(kept, ignore_errors=True)
-    shutil.copytree(Module.libraries / "rlib" / f"{name}.rlib" / "toolchain" / "checked", kept / build())
-    done = subprocess.run([*words, "--incremental", str(kept)], stdout=subprocess.PIPE, stderr=subprocess.STDOUT, text=True)
-    shutil.rmtree(kept)
-    (folder / ".log").write_text(done.stdout)
-    if not re.search(r"^logic=(?:not-)?proved", done.stdout, re.M):
-        sys.exit(fault(f"weaker.py: no verdict on {folder}: {done.stdout[-400:]}"))
-    return re.findall(rf"^{re.escape(str(folder))}/(\S+?):\d+:\d+: error: (?:`([^`]*)`: )?(.*)", done.stdout, re.M)
-
-
-def build(known=[]):
-    """The name that this build of rattle gives its folder of kept modules."""
-    if not known:
-        folder, kept = copy_of("fields", f"build-{os.getpid()}"), WORK / f"build-{os.getpid()}"
-        shutil.rmtree(kept, ignore_errors=True)
-        words = [str(KIT.own / "bin" / "rattle"), "check", "--crate-name", "fields", str(folder / "src" / "lib.rt"), "--extern", f"std={KIT.own / 'rlib' / 'std.rlib'}"]
-        words += ["-L", f"dependency={KIT.own / 'rlib'}", "--antt-project", str(KIT.home / "logic" / "antt-project.json"), "--logic-built", str(KIT.own / "logic-built")]
-        subprocess.run([*words, "--incremental", str(kept)], capture_output=True)
-        known.append(next(p.name for p in kept.iterdir() if p.name.startswith("antt-checked")))
-        shutil.rmtree(kept)
-        shutil.rmtree(folder)
-    return known[0]
+    """The errors that rt reports for a crate of a copy: (file, declaration, text)."""
+    subprocess.run(["rt", "fmt"], cwd=folder, stdin=subprocess.DEVNULL, stdout=subprocess.PIPE, stderr=subprocess.STDOUT)
+    done = subprocess.run(["rt", "ci"], cwd=folder.parent.parent, stdin=subprocess.DEVNULL, stdout=subprocess.PIPE, stderr=subprocess.STDOUT, text=True, errors="replace")
+    if not re.search(rf"^logic=not-proved|^rt: {name} (?:proved|is kept)", done.stdout, re.M):
+        sys.exit(fault(f"weaker.py: no verdict on {name}: {done.stdout[-400:]}"))
+    return re.findall(r"^(?:\./)?((?:src|specs|proofs)/\S+?):\d+:\d+: error: (?:`([^`]*)`: )?(.*)", done.stdout.partition(f"== {name}\n")[2], re.M)
 
 
 class Module:
     """A module of `statements`, and the crate and the file of theorems that it cites."""
 
-    libraries = TARGET
-
     def __init__(self, path):
         self.path, self.text = path, path.read_text()
-        found = re.findall(r"^use Rattle·(\w+)\.proofs\.(\w+) as (theorem\S*)$", self.text, re.M)
+        found = re.findall(r"^use Rattle\.(\w+)\.proofs\.(\w+) as (theorem\S*)$", self.text, re.M)
         if len({crate for crate, _, _ in found}) != 1:
             sys.exit(fault(f"weaker.py: {path.stem} cites theorems of {len({crate for crate, _, _ in found})} crates"))
         self.crate = found[0][0]
         self.files = {alias: file for _, file, alias in found}
-        self.inside = re.sub(rf"Rattle·{self.crate}\.(specs|proofs)\.", rf"Rattle·{self.crate}·\1.\1.", self.text)
-        self.statements = theorems(self.inside)
+        self.statements = theorems(self.text)
         self.cited = {s: c for s in self.statements for c in [self.cites(s)] if c}
         self.uncited = [s for s in self.statements if s not in self.cited]
         self.left_out = [f"{file}.{t}" for alias, file in self.files.items() for t in self.right(CRATES / self.crate, alias) if (alias, t) not in self.cited.values()]
@@ -383,14 +354,14 @@ class Module:
             below = [c for c in repository.crates()[todo.pop()] if c in repository.crates() and c not in stands]
             stands |= set(below)
             todo += below
-        for crate in sorted(set(re.findall(r"^use Rattle·(\w+)", self.text, re.M)) - stands):
+        for crate in sorted(set(re.findall(r"^use Rattle\.(\w+)", self.text, re.M)) & set(repository.crates()) - stands):
             yield fault(f"it imports from {crate}, which {self.crate} does not depend on")
         for name in self.uncited:
             yield fault(f"{name} cites no theorem")
 
     def place(self, crate, r, new):
         """The module of a weakened record in the copy."""
-        return f"Rattle·{self.crate}·proofs.proofs.W{new.replace('-', '')}" if r.foreign else crate.module(r.path)
+        return f"Rattle.{self.crate}.proofs.W{new.replace('-', '')}" if r.foreign else crate.module(r.path)
 
     def right(self, folder, alias):
         """The theorems of a file that the module cites, in the crate or in a copy of it."""
@@ -398,24 +369,27 @@ class Module:
 
     def body(self, name):
         """A statement's text, without the comment above it."""
-        lines = self.inside.split("\n")
+        lines = self.text.split("\n")
         start = next(i for i, l in enumerate(lines) if l.startswith(f"pub {name} : "))
         return "\n".join(lines[start : self.statements[name].end])
 
     def cites(self, name):
         """The theorem that a statement cites, with the name under which its file is imported."""
-        return next(iter(re.findall(r"(?<![^\s(])(theorem[^\s.()]*)\.([^\s()]+)", self.body(name))), None)
+        return next(iter(re.findall(r"(?<![^\s(])(theorem[^\s.()]*)\.([^\s().]+)", self.body(name))), None)
 
     def head(self):
         """The imports and the helpers: everything but statements."""
-        text = self.inside
+        text = self.text
         for name in self.statements:
             text = text.replace(self.body(name), "")
         return text
 
     def conclusions(self):
         """All weakened conclusions in one check. Returns (refused, tried, twins not accepted, what was not refused)."""
-        folder = copy_of(self.crate, f"{self.path.stem}-conclusions")
+        with copy_of(self.crate) as folder:
+            return self.conclusions_in(folder)
+
+    def conclusions_in(self, folder):
         crate = Crate(self.crate, folder)
         right = {alias: self.right(folder, alias) for alias in self.files}
         inserted, faults, records, statements = {}, {}, [], [self.head()]
@@ -425,7 +399,7 @@ class Module:
             names, items = clause(opened(crate, t.sig))
             call = " ".join([cited, *names])
             statements.append(self.body(name).replace(f"pub {name} :", f"pub {name}-twin :").replace(f"\n{name} ", f"\n{name}-twin "))
-            ways = list(weakened(crate, items[-1], "x′", label))
+            ways = list(weakened(crate, items[-1], "x'", label))
             ways.append(None)
             for w in ways:
                 n = next(label)
@@ -435,7 +409,7 @@ class Module:
                     text, what = f"{pad}pub {weak} : ⊥ → {t.sig}\n{pad}{weak} never = {cited}\n", "asks ⊥ in addition"
                 else:
                     start = " → ".join(items[:-1])
-                    value = "tt" if w.term == "tt" else f"let x′ = {call} in {w.term}"
+                    value = "tt" if w.term == "tt" else f"let x' = {call} in {w.term}"
                     text = f"{pad}pub {weak} : {start + ' → ' if start else ''}{w.type if ' ' not in w.type or not start else wrapped(w.type)}\n{pad}{' '.join([weak, *names])} = {value}\n"
                     records += w.records
                     what = w.what
@@ -457,7 +431,7 @@ class Module:
             bound = {name for names in re.findall(r"[({]([^(){}:]+) : ", put) for name in names.split()}  # (later : List ℕ) is no import
             planted = set(re.findall(r"[^\s(){}.,;]+", put)) - bound
             wanted = crate.needs & planted
-            for n in sorted((wanted | {f"_{n}_" for n in wanted}) & set(crate.known)):  # an operator is imported as _≡_
+            for n in sorted((wanted | {f"◌{n}◌" for n in wanted}) & set(crate.known)):  # an operator is imported as ◌≡◌
                 if not re.search(rf"^use .*[{{ ]{re.escape(n)}[,}}]", text, re.M) and crate.known[n] != crate.module(file):
                     uses += f"use {crate.known[n]}.{{{n}}}\n"
             first = re.search(r"^use ", text, re.M).start()
@@ -519,10 +493,13 @@ class Module:
 
     def record(self, r):
         """A field `never : ⊥` in a record. Returns whether the statements refuse it, and whether the crate itself does."""
-        folder = copy_of(self.crate, f"{self.path.stem}-{r.name}")
+        with copy_of(self.crate) as folder:
+            return self.record_in(folder, r)
+
+    def record_in(self, folder, r):
         path = folder / r.path.relative_to(CRATES / self.crate)
         path.write_text(re.sub(rf"(^pub record {re.escape(r.name)}(?: [({{][^)}}]*[)}}])+ : Type 0 where\n(?:  .*\n)+)", r"\1  pub never : ⊥\n", path.read_text(), count=1, flags=re.M))
-        (folder / "proofs" / "Weaker.antt").write_text(self.inside)
+        (folder / "proofs" / "Weaker.antt").write_text(self.text)
         with (folder / "proofs" / "Lib.antt").open("a") as lib:
             lib.write("pub mod Weaker\n")
         errors = check(self.crate, folder)
@@ -537,9 +514,7 @@ def main(given):
     words.add_argument("modules", nargs="*")
     words.add_argument("--records", type=int, default=1000)
     words.add_argument("--list", action="store_true")
-    words.add_argument("--target", type=pathlib.Path, default=TARGET)
     asked = words.parse_args(given)
-    Module.libraries = asked.target
     refused = tried = bad = masked = 0
     for name in asked.modules:
         if not (CRATES / "statements" / "proofs" / f"{name}.antt").exists():

@@ -128,9 +128,13 @@ def copied(folder):
         (folder / name).parent.mkdir(parents=True, exist_ok=True)
         shutil.copy(ROOT / name, folder / name)
     (folder / "target").mkdir()
-    for name in ("native", "unproved", "bin"):
+    for name in ("native", "unproved"):
         if (ROOT / "target" / name).exists():
             shutil.copytree(ROOT / "target" / name, folder / "target" / name)
+    for program in ROOT.glob("crates/*/out/*"):
+        if program.name == program.parent.parent.name and program.is_file():
+            (folder / program.relative_to(ROOT)).parent.mkdir(parents=True, exist_ok=True)
+            shutil.copy(program, folder / program.relative_to(ROOT))
     subprocess.run(["git", "init", "-q"], cwd=folder, check=True)
     subprocess.run(["git", "add", "-A"], cwd=folder, check=True)
 

@@ -82,7 +82,7 @@ IN_NUMBERS = [
     Planted("two numbers exchanged", exchanged(NUMBERS, r"[12]\t[^\n]*"), "its numbers are not the known ones in their order"),
     Planted("a name in the list", changed(NUMBERS, r"^4\tTOO_DEEP", "4\tDEEP"), r"crates/table/src/numbers\.rt differs: .*DEEP"),
     Planted("a constant of the code", changed("crates/table/src/numbers.rt", r"(TOO_DEEP: u32 = )4;", r"\g<1>44;"), r"table/src/numbers\.rt differs: .*44"),
-    Planted("a definition", changed("crates/table/specs/Numbers.antt", r"^(tooDeep = )4$", r"\g<1>44"), r"specs/Numbers\.antt differs: .*44"),
+    Planted("a definition", changed("crates/table/specs/Numbers.antt", r"^(too_deep = )4$", r"\g<1>44"), r"specs/Numbers\.antt differs: .*44"),
     Planted("two definitions exchanged", exchanged("crates/table/specs/Numbers.antt", r"\w+ = \d+"), r"specs/Numbers\.antt differs: in its order"),
     Planted("starlark_version with a number", changed(HEADER, r"( \*/\nuint32_t starlark_version\(void\))", r" Its number (1).\1"), "starlark_version gives a number"),
     Planted("a number of starlark_check_file", changed(HEADER, r"(: 70 to )75(?=, 3 to 5\. Accepted: (?:(?!\*/).)*\*/\nuint32_t starlark_check_file\()", r"\g<1>76"),
@@ -90,7 +90,7 @@ IN_NUMBERS = [
     Planted("a job of another name", changed(HEADER, r"^uint32_t starlark_rescue\(", "uint32_t starlark_saved("), "its jobs are not those of docs/numbers.tsv"),
     Planted("a job that gives a number more", changed(HEADER, r"in `file`: 90, 91, 7\.", "in `file`: 90, 91, 7, 6."), r"6 is given by '.*', in the header by .*rescue"),
     Planted("a job that a number leaves out", changed(NUMBERS, r"^(90\t[^\n]*\t)rescue$", r"\1"), "90 is given by"),
-    Planted("a kind of the definitions", changed("crates/soundness/specs/KindNumbers.antt", r"^(kindDef = )2$", r"\g<1>22"), r"KindNumbers\.antt differs: .*22"),
+    Planted("a kind of the definitions", changed("crates/soundness/specs/KindNumbers.antt", r"^(kind_def = )2$", r"\g<1>22"), r"KindNumbers\.antt differs: .*22"),
     Planted("a class in the list of kinds", changed(KINDS, "^2\tDef\tstatement", "2\tDef\texpression"), r"docs/kinds\.tsv differs: .*expression"),
     Planted("a kind of the code", changed("crates/soundness/src/kinds.rt", r"^(pub const DEF: u8 = )2;", r"\g<1>22;"), r"src/kinds\.rt differs: .*22"),
     Planted("a number that has no rule", changed("python/ducatmuffin/rules.py", r"^    4: (table|script)\(", r"    400: \1("), "its numbers are not those of docs/numbers.tsv"),
@@ -136,9 +136,9 @@ IN_INTERFACES = [
     *(Planted(f"another version in {file}", changed(file, pattern, r"\g<1>9.9.9"), rf"{re.escape(file)}: the version is not") for file, pattern in (
         (HEADER, r'^(#define STARLARK_VERSION ")[^"]*'), ("bindings/rust/Cargo.toml", r'^(version = ")[^"]*'),
         ("bindings/raw/Cargo.toml", r'^(version = ")[^"]*'), ("python/ducatmuffin/__init__.py", r'^(__version__ = ")[^"]*'))),
-    Planted("another version in the definitions", changed("crates/starlark_checks/specs/Version.antt", r"^(version = versionOf \d+ \d+ )\d+", r"\g<1>99"),
+    Planted("another version in the definitions", changed("crates/starlark_checks/specs/Version.antt", r"^(version = version_of \d+ \d+ )\d+", r"\g<1>99"),
             r"Version\.antt: the version is not"),
-    Planted("no version in the definitions", changed("crates/starlark_checks/specs/Version.antt", r"^version = versionOf", "version = made"), r"Version\.antt: the version is not"),
+    Planted("no version in the definitions", changed("crates/starlark_checks/specs/Version.antt", r"^version = version_of", "version = made"), r"Version\.antt: the version is not"),
     Planted("no version in the package", changed("python/ducatmuffin/__init__.py", r"^__version__ = ", "VERSION = "), r"__init__\.py: the version is not"),
     Planted("a limit that the Rust crate lacks", changed("bindings/rust/src/lib.rs", r"^pub const NODES: usize", "const NODES: usize"), "NODES is not the header's STARLARK_NODES"),
     Planted("a limit that the code lacks", changed("crates/table/src/lib.rt", r"const MOST_NODES: ", "const NODES_MOST: "), "STARLARK_NODES is not MOST_NODES"),
@@ -147,8 +147,8 @@ IN_INTERFACES = [
     Planted("a limit of the code", changed("crates/table/src/lib.rt", r"(const MOST_NODES: \w+ = )[^;]*", r"\g<1>2101"), "STARLARK_NODES is not MOST_NODES"),
     Planted("a sum of constants of the code", changed("crates/errors/src/lib.rt", r"(const WIDTH_WITH_NODE: \w+ = WIDTH \+ )\d+", r"\g<1>2"),
             "STARLARK_AUDIT_WORDS is not WIDTH_WITH_NODE"),
-    Planted("a mode of the definitions", changed("crates/deflist/specs/Unpack.antt", r"^(modeArgs = )\d+", r"\g<1>9"), "the modes are not those of the definitions"),
-    Planted("a shape of the definitions", changed("crates/types/specs/Forms.antt", r"^(listShape = )\d+", r"\g<1>9"), "the shapes are not those of the definitions"),
+    Planted("a mode of the definitions", changed("crates/deflist/specs/Unpack.antt", r"^(mode_args = )\d+", r"\g<1>9"), "the modes are not those of the definitions"),
+    Planted("a shape of the definitions", changed("crates/types/specs/Forms.antt", r"^(list_shape = )\d+", r"\g<1>9"), "the shapes are not those of the definitions"),
     Planted("a parameter of a declaration", changed("bindings/raw/src/lib.rs", r"(fn starlark_params\(.*?node: )usize", r"\1u32"), "starlark_params is not declared as in the header"),
     Planted("a function that Rust declares alone", changed("bindings/raw/src/lib.rs", r"^(    pub fn starlark_)(params\(.*?-> u32;\n)", r"\1\2\1other_\2"),
             "declares other functions than the header"),
@@ -214,12 +214,12 @@ IN_CITED = [
         added("crates/fields/src/lib.rt", "// fn meadow() {}\n"), added(PROOFS, "`crates/fields/src/lib.rt`: `meadow`\n")), "does not define meadow"),
     Planted("a name that a file imports and does not define", added(PROOFS, "`crates/demand3/specs/Cut.antt`: `Cut` and `Distinct`\n"), "does not define Distinct"),
     Planted("a name of the file beside", added(PROOFS, "`crates/demand3/specs/Cut.antt`: `Cut`; `Numbers.antt`: `x`\n"), r"there is no Numbers\.antt"),
-    Planted("a field, a constructor, a variant", added(PROOFS, "`crates/demand3/specs/Cut.antt`: `middle`, `noSlash`; `dialect/src/lib.rt`: `ParseOnly`, `enable_def`\n"), None),
-    Planted("a theorem without a path that no file has", added(PROOFS, "The theorem `never-was-proved` says it.\n"), "no file defines never-was-proved"),
+    Planted("a field, a constructor, a variant", added(PROOFS, "`crates/demand3/specs/Cut.antt`: `middle`, `no_slash`; `dialect/src/lib.rt`: `ParseOnly`, `enable_def`\n"), None),
+    Planted("a theorem without a path that no file has", added(PROOFS, "The theorem `was_never_proved` says it.\n"), "no file defines was_never_proved"),
     Planted("a function without a path that no file has", added(PROOFS, "The function `never_was_written` does it.\n"), "no file defines never_was_written"),
-    Planted("a definition without a path that no file has", added(PROOFS, "The definition `neverSaid` has it.\n"), "no file defines neverSaid"),
+    Planted("a definition without a path that no file has", added(PROOFS, "The type `NeverSaid` has it, and `never-said` too.\n"), "no file defines never-said"),
     Planted("a function that another crate has", added(PROOFS, "The function `fields::type_shape` does it.\n"), "no file defines fields::type_shape"),
-    Planted("names without a path that are there", added(PROOFS, "`shapes::type_shape`, `fromBytes`, `starlark_read`, `accepted-iff-cut`, `MOST_NODES`\n"), None),
+    Planted("names without a path that are there", added(PROOFS, "`shapes::type_shape`, `from_bytes`, `starlark_read`, `accepted_iff_cut`, `MOST_NODES`\n"), None),
 ]
 
 STATEMENTS = "crates/statements/proofs/Examples.antt"
@@ -227,37 +227,50 @@ UNSAID = "no sentence, no words, or no theorem"
 IN_STATEMENTS = [
     Planted("a statement without its words", changed(STATEMENTS, "In words: ", "So: "), rf"Examples\.\S+: {UNSAID}"),
     Planted("a statement without its sentence", changed(STATEMENTS, r"^--[^\n]*\n(?=-- In words: )", ""), rf"Examples\.\S+: {UNSAID}"),
-    Planted("a statement that cites no theorem", changed(STATEMENTS, r"^how-many = theorem\.how-many", "how-many = law.how-many"), rf"Examples\.how-many: {UNSAID}"),
-    Planted("a module over two crates", changed(STATEMENTS, "^use ", "use Rattle·fields.proofs.Fields as theorem-fields\nuse "), "Examples: it cites theorems of 2 crates"),
+    Planted("a statement that cites no theorem", changed(STATEMENTS, r"^how_many_lem = theorem\.how_many_lem", "how_many_lem = law.how_many_lem"), rf"Examples\.how_many_lem: {UNSAID}"),
+    Planted("a module over two crates", changed(STATEMENTS, "^use ", "use Rattle.fields.proofs.Fields as theorem-fields\nuse "), "Examples: it cites theorems of 2 crates"),
     Planted("a line of the page", changed("docs/STATEMENTS.md", r"^## ", "### "), "docs/STATEMENTS.md is not what crates/statements says"),
-    Planted("a statement", changed(STATEMENTS, "pub how-many : length table ≡ 14", "pub how-many : length table ≡ 13"), "docs/STATEMENTS.md is not what crates/statements says"),
+    Planted("a statement", changed(STATEMENTS, "pub how_many_lem : length table ≡ 14", "pub how_many_lem : length table ≡ 13"), "docs/STATEMENTS.md is not what crates/statements says"),
     Planted("a page that is gone", removed("docs/STATEMENTS.md"), "docs/STATEMENTS.md is not what crates/statements says"),
     Planted("a theorem of a file that is not restated", all_of(
-        added("crates/fields/proofs/Promises.antt", "pub planted-here : ℕ\n"), added(PROOFS, "`crates/fields/proofs/Promises.antt`: `planted-here`\n")),
-            r"PROOFS\.md names planted-here of fields/proofs/Promises\.antt, which no statement restates"),
+        added("crates/fields/proofs/Promises.antt", "pub planted_here : ℕ\n"), added(PROOFS, "`crates/fields/proofs/Promises.antt`: `planted_here`\n")),
+            r"PROOFS\.md names planted_here of fields/proofs/Promises\.antt, which no statement restates"),
     Planted("a theorem without a file that is not restated", all_of(
-        added("crates/fields/proofs/Promises.antt", "pub planted-here : ℕ\n"), added("README.md", "That is `planted-here`.\n")),
-            r"README\.md names planted-here of no file, .* which no statement restates"),
+        added("crates/fields/proofs/Promises.antt", "pub planted_here : ℕ\n"), added("README.md", "That is `planted_here`.\n")),
+            r"README\.md names planted_here of no file, .* which no statement restates"),
     Planted("a theorem of one answer", all_of(
-        added("crates/fields/proofs/Promises.antt", "pub planted-one : ℕ\n"), added("README.md", "That is `planted-one`.\n")), None),
+        added("crates/fields/proofs/Promises.antt", "pub planted_one : ℕ\n"), added("README.md", "That is `planted_one`.\n")), None),
+    Planted("a theorem of the name of a function", all_of(
+        added("crates/fields/proofs/Promises.antt", "pub judge_room : ℕ\n"), added("README.md", "That is `judge_room`.\n")),
+            r"README\.md names judge_room of no file, .* which no statement restates"),
+    Planted("a function with its crate, of a theorem's name", all_of(
+        added("crates/fields/proofs/Promises.antt", "pub judge_room : ℕ\n"), added("README.md", "That is `tablefile::judge_room`.\n")), None),
 ]
 
 
 # ---- imports.py, lines.py
 
 SPECS, CODE, PROOF = "crates/fields/specs/Field.antt", "crates/fields/src/lib.rt", "crates/fields/proofs/Promises.antt"
+ANSWERS, LAWS = "crates/fields/proofs/half/Answers.antt", "crates/table/proofs/Answers.antt"
 IN_IMPORTS = [
     Planted("a name in a list", changed(SPECS, r"\A", "use lib.Made.{meadow}\n"), r"specs/Field\.antt imports and does not use meadow"),
     Planted("a second name in a list", changed(SPECS, r"^(use \S+\.\{[^}]*)\}", r"\1, meadow}"), "does not use meadow"),
     Planted("a name under another", changed(SPECS, r"^(use \S+\.\{[^}]*)\}", r"\1, field as meadow}"), "does not use meadow"),
     Planted("a module", changed(SPECS, r"\A", "use lib.Made as meadow\n"), "does not use meadow"),
     Planted("a name of the code", changed(CODE, r"^ghost use", "use crate::meadow;\nghost use"), r"src/lib\.rt imports and does not use meadow"),
+    Planted("a name of the code in a list", changed(CODE, r"^ghost use", "use crate::{field, meadow};\nghost use"), r"src/lib\.rt imports and does not use meadow"),
+    Planted("a module itself", changed(CODE, r"^ghost use", "use crate::meadow::{self};\nghost use"), r"src/lib\.rt imports and does not use meadow"),
+    Planted("a trait of which no method is called", changed(CODE, r"^ghost use", "use std::io::{Write};\nghost use"), "does not use Write"),
+    Planted("a trait of which a method is called", all_of(
+        changed(CODE, r"^ghost use", "use std::io::{Write};\nghost use"), added(CODE, "fn made(w: &mut W) {\n    w.flush()\n}\n")), None),
+    Planted("an import in an import", changed(CODE, r"^ghost use", "use crate::{field::{meadow}, byte};\nghost use"), r"src/lib\.rt has an import that is not read"),
     Planted("a name of a contract", changed(CODE, r"^(ghost use \S+\.\{[^}]*)\}", r"\1, meadow}"), "does not use meadow"),
     Planted("a name that is only in a comment", all_of(changed(SPECS, r"\A", "use lib.Made.{meadow}\n"), added(SPECS, "-- meadow\n")), "does not use meadow"),
     Planted("a name that is a part of another", all_of(changed(SPECS, r"\A", "use lib.Made.{meadow}\n"), added(SPECS, "pub meadows : ℕ\n")), "does not use meadow"),
-    Planted("an operator", changed(SPECS, r"\A", "use lib.Made.{_⊗_}\n"), "does not use _⊗_"),
-    Planted("an operator in front", changed(SPECS, r"\A", "use lib.Made.{¬_}\n"), "does not use ¬_"),
-    Planted("operators that are used", all_of(changed(SPECS, r"\A", "use lib.Made.{_⊗_, ¬_}\n"), added(SPECS, "pub other : ¬ (ℕ ⊗ ℕ)\n")), None),
+    Planted("an operator", changed(SPECS, r"\A", "use lib.Made.{◌⊗◌}\n"), "does not use ◌⊗◌"),
+    Planted("an operator in front", changed(SPECS, r"\A", "use lib.Made.{¬◌}\n"), "does not use ¬◌"),
+    Planted("operators that are used", all_of(changed(SPECS, r"\A", "use lib.Made.{◌⊗◌, ¬◌, ◌⊕◌}\n"), added(SPECS, "pub other : ¬ (ℕ ⊗ ℕ) (◌⊕◌)\n")), None),
+    Planted("an operator that is a part of another", all_of(changed(SPECS, r"\A", "use lib.Made.{◌⊗◌}\n"), added(SPECS, "pub other : ℕ ⊗⊗ ℕ\n")), "does not use ◌⊗◌"),
     Planted("a name that ends in an underscore", all_of(changed(SPECS, r"\A", "use lib.Made.{meadow_}\n"), added(SPECS, "pub meadow : ℕ\n")), "does not use meadow_"),
     Planted("a name that is used", all_of(changed(SPECS, r"\A", "use lib.Made.{meadow}\n"), added(SPECS, "pub other : meadow\n")), None),
     Planted("a name that is handed on", changed(SPECS, r"\A", "pub use lib.Made.{meadow}\n"), None),
@@ -265,7 +278,7 @@ IN_IMPORTS = [
 
 
 def before(times):
-    return " .before" * times
+    return ".before" * times
 
 
 def law(lines, first=""):
@@ -276,15 +289,22 @@ def law(lines, first=""):
 IN_LINES = [
     Planted("a line of 120 columns", added(SPECS, "x" * 120 + "\n"), None),
     Planted("a line of 121 columns", added(SPECS, "x" * 121 + "\n"), r"lines: crates/fields/specs/Field\.antt:\d+: 121 columns"),
+    Planted("an import of 133 columns", changed(SPECS, r"\A", "use lib.Made.{" + "x" * 119 + "}\n"), None),
     Planted("a comment of 133 columns", added(CODE, "// " + "x" * 130 + "\n"), r"src/lib\.rt:\d+: 133 columns"),
-    Planted("a chain of four", added(PROOF, f"(search (c{before(4)} .judge))\n"), None),
-    Planted("a chain of five", added(PROOF, f"(search (c{before(5)} .judge))\n"), "a chain of 5 `.before`"),
-    Planted("a waypoint of six", added(PROOF, f"    let judge = c{before(6)} .judge in\n"), None),
-    Planted("a waypoint of seven", added(PROOF, f"    let judge = c{before(7)} .judge in\n"), "a chain of 7 `.before`"),
-    Planted("a chain of five that is no waypoint", added(PROOF, f"    let judge = law (c{before(5)} .judge) in\n"), "a chain of 5 `.before`"),
-    Planted("a chain on two lines", added(PROOF, f"(c{before(3)}\n    .before .before .judge)\n"), "a chain of 5 `.before`"),
+    Planted("a chain of four", added(PROOF, f"(search (c{before(4)}.judge))\n"), None),
+    Planted("a chain of five", added(PROOF, f"(search (c{before(5)}.judge))\n"), "a chain of 5 `.before`"),
+    Planted("a waypoint of six", added(PROOF, f"    let judge = c{before(6)}.judge in\n"), None),
+    Planted("a waypoint of seven", added(PROOF, f"    let judge = c{before(7)}.judge in\n"), "a chain of 7 `.before`"),
+    Planted("a chain of five that is no waypoint", added(PROOF, f"    let judge = law (c{before(5)}.judge) in\n"), "a chain of 5 `.before`"),
+    Planted("a chain on two lines", added(PROOF, f"(c{before(3)}\n    .before.before.judge)\n"), "a chain of 5 `.before`"),
+    Planted("a chain of ten numbers", added(ANSWERS, f"put_range-requires-9 c = search (c.requires{'.1' * 9}.0)\n"), None),
+    Planted("a chain of eleven numbers", added(ANSWERS, f"put_range-requires-9 c = search (c.requires{'.1' * 10}.0)\n"), r"Answers\.antt:\d+: a chain of 11 numbers"),
+    Planted("a waypoint of eleven numbers", added(ANSWERS, f"    let last = c.requires{'.1' * 11} in\n"), "a chain of 11 numbers"),
     Planted("a law of 25 lines", added(PROOF, law(25)), None),
     Planted("a law of 26 lines", added(PROOF, law(26)), r"lines: crates/fields/proofs/Promises\.antt:\d+: a law of 26 lines"),
+    Planted("a law of 26 lines in a file of laws that is named Answers", added(LAWS, law(26)), r"lines: crates/table/proofs/Answers\.antt:\d+: a law of 26 lines"),
+    Planted("a law with nine lets in a file of laws that is named Answers", added(LAWS, law(2, "let a = b in " * 9)), r"Answers\.antt:\d+: a law with 9 `let`s"),
+    Planted("answers of 26 lines", added(ANSWERS, law(26)), None),
     Planted("a law of 26 lines, one a comment", added(PROOF, law(25) + "    -- why\n"), None),
     Planted("a definition of 26 lines", added(SPECS, law(26)), None),
     Planted("a law with eight lets", added(PROOF, law(2, "let a = b in " * 8)), None),
@@ -369,7 +389,6 @@ IN_SHOWN = [
 
 # ---- promises.py, contracts.py
 
-CLAUSE = r"    ensures .*?⌝ \}\n"  # an 'ensures', on one line or several
 MADE_UP = "fn made_up(n: u32) -> u32 {\n    n\n}\n"
 
 
@@ -408,7 +427,7 @@ def edited(crate, file, old, new):
 
 def without_ensures(file, function):
     """A function that has no 'ensures' at all."""
-    return changed(file, rf"fn {function}\(.*?\n\{{\n", lambda found: re.sub(CLAUSE, "", found[0], flags=re.S))
+    return changed(file, rf"fn {function}\(.*?\n\{{\n", lambda found: re.sub(r"    ensures .*? \}\n(?=\{)", "", found[0], flags=re.S))
 
 
 def moved_edits(crate, function, file, old, new):
@@ -425,14 +444,14 @@ def moved_edits(crate, function, file, old, new):
     return plant
 
 
-NO_SHAPES_PROMISE = changed(source("shapes"), r"^    ensures (?:(?!⌝ \}).)*shapes \.exit.*?⌝ \}\n", "")
+NO_SHAPES_PROMISE = changed(source("shapes"), r"^    ensures \w+ \{ shapes\.new .*? \}\n(?=    ensures|\{)", "")
 IN_PROMISES = [
     Planted("every 'ensures' of starlark_assignment deleted", without_ensures(source("starlark_checks"), "starlark_assignment"),
             "starlark_checks::starlark_assignment: no 'ensures' fixes its answer"),
     Planted("the buffer promise of type_shape deleted", NO_SHAPES_PROMISE, "shapes::type_shape: no 'ensures' fixes what shapes is at exit"),
     Planted("and from its theorem too", all_of(NO_SHAPES_PROMISE, *[changed(theorems("shapes"), rf"→ shapes-{answer} ≡ [^→]*", "") for answer in "rs"]),
             "shapes::type_shape: no 'ensures' fixes what shapes is at exit"),
-    Planted("a 'requires' at a public function", changed(source("targets"), r"(^pub fn target\([^\n]*\n)", r"\1    requires { ⌜ node ≤ 1 ⌝ }\n"),
+    Planted("a 'requires' at a public function", changed(source("targets"), r"(^pub fn target\([^\n]*\n)", r"\1    requires { node ≤ 1 }\n"),
             "targets::target: it has a 'requires'"),
     Planted("no comment above a public function", changed(source("fields"), r"^(?://[^\n]*\n)+(?=pub fn half)", ""), "fields::half: no comment above it says what it answers"),
     Planted("an answer that is '&mut'", changed(source("fields"), r"^(pub fn half\([^)]*\) -> )\w+", r"\1&mut u32"), "fields::half: its answer can be changed later"),
@@ -440,37 +459,57 @@ IN_PROMISES = [
     Planted("a public function that answers nothing", added(source("fields"), "// Does nothing.\npub fn idle(n: u32) {\n}\n"),
             "fields::idle: it returns nothing and changes no buffer"),
     Planted("a promise that cites a proof", all_of(
-        changed(source("targets"), "targeted r ≡ targetOf", "targeted r ≡ planted"),
-        changed(source("targets"), "^ghost use ", "ghost use Rattle·targets·proofs.proofs.Promises.{planted};\nghost use ")),
+        changed(source("targets"), "targeted result ≡ target_of", "targeted result ≡ planted"),
+        changed(source("targets"), "^ghost use ", "ghost use Rattle.targets.proofs.Promises.{planted};\nghost use ")),
             "targets::target: its promise cites planted of a proof"),
     Planted("a promise that cites a proof of another crate", all_of(
-        changed(source("targets"), "targeted r ≡ targetOf", "targeted r ≡ planted"),
-        changed(source("targets"), "^ghost use ", "ghost use Rattle·fields.proofs.Promises.{planted};\nghost use ")),
+        changed(source("targets"), "targeted result ≡ target_of", "targeted result ≡ planted"),
+        changed(source("targets"), "^ghost use ", "ghost use Rattle.fields.proofs.Promises.{planted};\nghost use ")),
             "targets::target: its promise cites planted of a proof"),
-    Planted("another definition in an 'ensures'", changed(source("targets"), "targeted r ≡ targetOf", "targeted r ≡ assignmentOf"),
-            "targets::target: its contract gives '.*assignmentOf.*', but its theorem says '.*targetOf"),
-    Planted("a definition that is not imported", changed(source("targets"), "targeted r ≡ targetOf", "targeted r ≡ nowhere"), "targets::target: not read: the name nowhere in its contract"),
-    Planted("an answer that is promised to be itself", changed(source("fields"), "r ≡ field 2 [^⌝]*", "r ≡ r "), "fields::half: no 'ensures' fixes its answer"),
-    Planted("an 'ensures' commented out", changed(source("fields"), r"    (?=ensures \{ λ r\. ⌜ r ≡ field 2)", "    // "), "fields::half: no 'ensures' fixes its answer"),
-    Planted("a premise of a theorem weakened", changed(theorems("shapes"), "shapes-s ≡ shapesAfter [^→]*", "shapes-s ≡ shapes-r "),
+    Planted("another definition in an 'ensures'", changed(source("targets"), "targeted result ≡ target_of", "targeted result ≡ assignment_of"),
+            "targets::target: its contract gives '.*assignment_of.*', but its theorem says '.*target_of"),
+    Planted("a definition that is not imported", changed(source("targets"), "targeted result ≡ target_of", "targeted result ≡ nowhere"), "targets::target: not read: the name nowhere in its contract"),
+    Planted("an answer that is promised to be itself", changed(source("fields"), "result ≡ field 2 [^}]*", "result ≡ result "), "fields::half: no 'ensures' fixes its answer"),
+    Planted("an 'ensures' commented out", changed(source("fields"), r"    (?=ensures \{ result ≡ field 2)", "    // "), "fields::half: no 'ensures' fixes its answer"),
+    Planted("a premise of a theorem weakened", changed(theorems("shapes"), "shapes-s ≡ shapes_after [^→]*", "shapes-s ≡ shapes-r "),
             "shapes::type_shape: its contract gives .* but its theorem says '.*shapes-s ≡ shapes-r"),
     Planted("a conclusion of a theorem weakened", changed(theorems("starlark_checks"), r"\(r ≡ s\) × \(out-r ≡ out-s\)", "r ≡ s"),
             "starlark_checks::starlark_table: its contract gives .* but its theorem says"),
-    Planted("a theorem over another definition of the same name", changed(theorems("targets"), r"(?<=[{ ])targetOf", "assignmentOf as targetOf"),
-            "targets::target: proofs/Promises.antt does not take targetOf from"),
+    Planted("a theorem over another definition of the same name", changed(theorems("targets"), r"(?<=[{ ])target_of", "assignment_of as target_of"),
+            "targets::target: proofs/Promises.antt does not take target_of from"),
+    Planted("a theorem over another definition of the library of the same name", changed(theorems("fields"), r"^use lib\.ListN\.\{get_or\}", "use lib.ListN.{drop as get_or}"),
+            "fields::byte: proofs/Promises.antt does not take get_or from"),
+    Planted("a theorem over the library's definition as another module hands it on", changed(theorems("fields"), r"^use lib\.ListN\.\{get_or\}", "use Rattle.std.specs.Prelude.{get_or}"), None),
     Planted("a theorem over a definition of its own", added(theorems("fields"), "field : ℕ → List ℕ → ℕ → ℕ\n"), "fields::half: proofs/Promises.antt defines field itself"),
-    Planted("a theorem left out", changed(theorems("fields"), "^pub word-one", "pub words-two"), "fields::word: proofs/Promises.antt has no theorem 'pub word-one"),
-    Planted("a theorem commented out", changed(theorems("fields"), "^pub word-one.*", lambda found: re.sub("(?m)^", "-- ", found[0])),
-            "fields::word: proofs/Promises.antt has no theorem 'pub word-one"),
-    Planted("a theorem of no function", added(theorems("fields"), "pub nobody-one : ℕ\n"), "fields: nobody-one in proofs/Promises.antt is the theorem of no public function"),
-    Planted("two functions of one theorem", added(source("fields"), "pub " + MADE_UP.replace("made_up", "half_")), "fields: half-one would be the theorem of several functions"),
+    Planted("a theorem left out", changed(theorems("fields"), "^pub word_one", "pub words_two"), "fields::word: proofs/Promises.antt has no theorem 'pub word_one"),
+    Planted("a theorem commented out", changed(theorems("fields"), "^pub word_one.*", lambda found: re.sub("(?m)^", "-- ", found[0])),
+            "fields::word: proofs/Promises.antt has no theorem 'pub word_one"),
+    Planted("a theorem of no function", added(theorems("fields"), "pub nobody_one : ℕ\n"), "fields: nobody_one in proofs/Promises.antt is the theorem of no public function"),
+    Planted("two functions of one theorem", added(source("fields"), "pub " + MADE_UP.replace("made_up", "half_")), "fields: half_one would be the theorem of several functions"),
     Planted("a record of a promise that says nothing of the list", changed("crates/errors/specs/Errors.antt", r"\n  pub words : ys ≡ stored l \(kept l es\) xs", ""),
             "errors::push_at: no 'ensures' fixes what errors is at exit"),
     Planted("a new public function with nothing", added(source("blocks"), "pub " + MADE_UP), "blocks::made_up: no 'ensures' fixes its answer"),
     Planted("a new method with nothing", added(source("parameters"), "impl Range {\n    pub fn made_up(self) -> usize {\n        self.from\n    }\n}\n"),
             "parameters::Range::made_up: no 'ensures' fixes its answer"),
-    Planted("a new function for C that is not 'pub'", added(source("starlark_checks"), '#[no_mangle]\nextern "C" ' + MADE_UP),
+    Planted("a new function for C that is not 'pub'", added(source("starlark_checks"), '#[unsafe(no_mangle)]\nextern "C" ' + MADE_UP),
             "starlark_checks::made_up: no 'ensures' fixes its answer"),
+    # a static library
+    Planted("a function of the static library that calls another one", changed(source("starlark_checks_c"), r"^(    starlark_checks::)starlark_call\(", r"\1starlark_target("),
+            "starlark_checks_c::starlark_call: its contract is not that of starlark_checks::starlark_target"),
+    Planted("two arguments exchanged in the static library", changed(source("starlark_checks_c"), r"^(    starlark_checks::starlark_call\()table, names", r"\1names, table"),
+            "starlark_checks_c::starlark_call: its body is not one call with its own parameters in their order"),
+    Planted("a function of the static library that does more", changed(source("starlark_checks_c"), r"^(?=    starlark_checks::starlark_call\()", "    out[0] = 0;\n"),
+            "starlark_checks_c::starlark_call: its body is not one call with its own parameters in their order"),
+    Planted("a weaker contract in the static library", changed(source("starlark_checks_c"), r"^    ensures \w+ \{ result ≡ number \(call_of [^\n]*\n", ""),
+            "starlark_checks_c::starlark_call: its contract is not that of starlark_checks::starlark_call"),
+    Planted("another definition of the same name in the static library", changed(source("starlark_checks_c"), r"(?<=[{ ])call_of(?=[,}])", "call_values as call_of"),
+            "starlark_checks_c::starlark_call: its contract is not that of starlark_checks::starlark_call"),
+    Planted("another equation of the same sign in the static library",
+            changed(source("starlark_checks_c"), r"^(ghost use Rattle\.std\.specs\.Prelude\.\{)◌≡◌, ", r"ghost use Rattle.fields.specs.Field.{◌≡◌};\n\1"),
+            "starlark_checks_c::starlark_call: its contract is not that of starlark_checks::starlark_call"),
+    Planted("a call of the static library into no library here", changed(source("starlark_checks_c"), r"^    starlark_checks::starlark_call\(", "    elsewhere::starlark_call("),
+            "starlark_checks_c::starlark_call: elsewhere::starlark_call is no public function of a library here"),
+    Planted("a private function of the static library", added(source("starlark_checks_c"), MADE_UP), "starlark_checks_c::made_up: a static library has public functions alone"),
     Planted("a private function of a library with nothing", added(source("blocks"), MADE_UP), "blocks::made_up: it promises nothing"),
     Planted("a public function of a program", changed("crates/cases/src/answers.rt", r"^pub\(crate\) fn", "pub fn"), r"cases::answers::\w+: .*(ensures|answers nothing)"),
     Planted("no public function at all", changed("crates.txt", r"\A.*\Z", "audited: demand3\n"), "there is no public function"),
@@ -479,12 +518,13 @@ IN_PROMISES = [
     Planted("a trait", added(source("blocks"), "trait Made {\n}\n"), "not read: blocks/src/lib.rt has a trait or a macro"),
     Planted("a bracket that is open", added(source("blocks"), "pub fn made_up(n: u32) -> u32 {\n    (n\n"), "not read: a bracket that is never closed"),
     Planted("words behind the parameters", added(source("blocks"), "pub fn made_up(n: u32) where T {\n}\n"), "not read: made_up: the text after its parameters"),
-    Planted("words behind a contract", added(source("blocks"), "pub fn made_up(n: u32) -> u32\n    ensures { λ r. ⌜ r ≡ n ⌝ }\n    decreases { n }\n{\n    n\n}\n"),
+    Planted("words behind a contract", added(source("blocks"), "pub fn made_up(n: u32) -> u32\n    ensures { result ≡ n }\n    decreases { n }\n{\n    n\n}\n"),
             "not read: made_up: the text between its contract and its body"),
     Planted("a parameter that is a pattern", added(source("blocks"), "pub fn made_up((a, b): Pair) -> u32 {\n    a\n}\n"), r"not read: a parameter '\(a, b\): Pair'"),
     Planted("a type that is generic", changed(source("fields"), r"^(pub fn half\([^)]*)\)", r"\1, more: Vec<u8>)"), "fields::half: not read: the type Vec<u8>"),
-    Planted("a clause without a fact", changed(source("fields"), r"(?<=ensures \{ )λ r\. ⌜ r ≡ field 2 ([^⌝]*)⌝", r"r ≡ field 2 \1"), "fields::half: not read: the clause '.*' is no ⌜fact⌝"),
-    Planted("a clause with another 'now'", changed(source("fields"), r"(?<=λ r\. ⌜ r ≡ field 2 )([^⌝]*)", r"(now b) \1"), "fields::half: not read: the clause '.*' speaks of 'now' in another way"),
+    Planted("a clause that is no fact", changed(source("fields"), r"(?<=ensures \{ )(result ≡ field 2 [^}]*?)(?= \})", r"⌜ \1 ⌝"), "fields::half: not read: the clause '.*' is no fact"),
+    Planted("a clause with another value of a parameter", changed(source("fields"), r"(?<=result ≡ field 2 )b\.now", "b.exit.now"),
+            "fields::half: not read: the clause '.*' speaks of a parameter's value in another way"),
     # the document
     Planted("a line of the document edited by hand", changed("docs/PROMISES.md", r"^(\| `byte` \| )", r"\1 Always "), "docs/PROMISES.md has a line that the sources do not give"),
     Planted("a line of the document deleted", changed("docs/PROMISES.md", r"^\| `byte` \|[^\n]*\n", ""), "docs/PROMISES.md lacks a line that the sources give"),
@@ -494,7 +534,7 @@ IN_PROMISES = [
     Planted("the wrong answers of a function moved to one that it calls", moved_edits("table", "check", "src/depth.rt", "if MOST_DEPTH < here {", "if 65 < here {"),
             "table::check: no wrong answer .* is in its body"),
     Planted("all wrong answers of a function but one deleted", removed("crates/fields/wrong/half_high_byte_first.edit"), "fields::half: it has fewer than two wrong answers"),
-    Planted("a wrong answer in a contract", created("crates/fields/wrong/planted.edit", "file: src/lib.rt\nold: r ≡ field 2 (\nnew: r ≡ field 4 (\n"),
+    Planted("a wrong answer in a contract", created("crates/fields/wrong/planted.edit", "file: src/lib.rt\nold: result ≡ field 2 b\nnew: result ≡ field 4 b\n"),
             "fields: a text that the wrong answer planted changes is in no function's body"),
     Planted("a wrong answer in a function that nothing calls", all_of(
         added(source("fields"), "fn lonely(n: u32) -> u32 {\n    n + 77\n}\n"), edited("fields", "src/lib.rt", "n + 77", "n + 78")),
@@ -502,21 +542,21 @@ IN_PROMISES = [
     Planted("the wrong answers of a crate without code deleted but for one", deleted("audited", 1), "audited: it has no code, and fewer than two wrong answers"),
     Planted("a wrong answer of a crate without code in a comment", edited("demand3", "specs/Cut.antt", "-- the parts joined", "-- the parts"),
             "demand3: a text that the wrong answer planted changes is in no definition"),
-    Planted("a wrong answer of a crate without code in an import", edited("demand3", "specs/Cut.antt", "use mathlib.Core.Path.{_≡_", "use mathlib.Core.Path.{refl, _≡_"),
+    Planted("a wrong answer of a crate without code in an import", edited("demand3", "specs/Cut.antt", "use Rattle.std.specs.Prelude.{◌≡◌", "use Rattle.std.specs.Prelude.{refl, ◌≡◌"),
             "demand3: a text that the wrong answer planted changes is in no definition"),
     Planted("a wrong answer of a crate without code in a theorem",
-            edited("demand3", "proofs/Demand3.antt", "holders (cutRanges c) i ≡ 1", "holders (cutRanges c) i ≡ 2"),
+            edited("demand3", "proofs/Demand3.antt", "holders (cut_ranges c) i ≡ 1", "holders (cut_ranges c) i ≡ 2"),
             "demand3: a text that the wrong answer planted changes is in no definition"),
-    Planted("a wrong answer of `statements` in a proof", edited("statements", "proofs/Examples.antt", "how-many = theorem.how-many", "how-many = theorem.examples"),
+    Planted("a wrong answer of `statements` in a proof", edited("statements", "proofs/Examples.antt", "how_many_lem = theorem.how_many_lem", "how_many_lem = theorem.examples"),
             "statements: a text that the wrong answer planted changes is in no definition"),
     Planted("a wrong answer of `statements` not in the document",
-            edited("statements", "proofs/Examples.antt", "pub how-many : length table ≡ 14", "pub how-many : length table ≡ 13"),
+            edited("statements", "proofs/Examples.antt", "pub how_many_lem : length table ≡ 14", "pub how_many_lem : length table ≡ 13"),
             "docs/PROMISES.md lacks a line that the sources give .*planted"),
 ]
 
 # ---- prototypes.py, counted.py
 
-JOBS, PACKAGE, WRAPPER = "crates/starlark_checks/src/lib.rt", "python/ducatmuffin/library.py", "bindings/rust/src/interface.rs"
+JOBS, PACKAGE, WRAPPER = "crates/starlark_checks_c/src/lib.rt", "python/ducatmuffin/library.py", "bindings/rust/src/interface.rs"
 
 
 def without_functions(room):
@@ -604,7 +644,7 @@ CHECKS = [
     Check("counted.py", (), IN_COUNTED, WHOLE),
     Check("faults.py", ("--check",), IN_STEPS, WHOLE),
     Check("imports.py", (), IN_IMPORTS, FEW),
-    Check("lines.py", (), IN_LINES, FEW),
+    Check("lines.py", (), IN_LINES, (*FEW, LAWS)),
     Check("tables.py", ("files", "samples/example.txt", "--check"), IN_TABLES, LISTED),
     Check("shown.py", (), IN_SHOWN, ("README.md", "docs/*", "samples/*"), command),
     Check("faults-port", ("--check",), IN_FAULTS, PORT),

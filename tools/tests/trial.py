@@ -57,7 +57,7 @@ class Room:
         there = self.root / path.relative_to(ROOT)
         there.parent.mkdir(parents=True, exist_ok=True)
         if path.is_dir():
-            shutil.copytree(path, there, dirs_exist_ok=True, ignore=shutil.ignore_patterns("__pycache__", "target"))
+            shutil.copytree(path, there, dirs_exist_ok=True, ignore=shutil.ignore_patterns("__pycache__", "target", "out"))
         else:
             shutil.copy(path, there)
 

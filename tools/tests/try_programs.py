@@ -1,8 +1,7 @@
 #!/usr/bin/env python3
 """Tries what no promise says about the programs tablecheck, tablerescue and tablefigures: how much they read, what they print, and how OUT is replaced.
 
-They must be built (rt check tablecheck tablerescue tablefigures). Each is run as rt runs it, on Arm under the kit's emulator. For the comparison of the
-command with them there is a step of its own. Status 1, with a line for each fault, where something is not as it must be.
+They must be built, as rt ci builds them. Each is run as it is. For the comparison of the command with them there is a step of its own. Status 1, with a line for each fault, where something is not as it must be.
 """
 import os
 import pathlib
@@ -38,10 +37,7 @@ TRIED = []
 
 def command(name):
     """The words that run a program."""
-    toolchain = repository.Kit().toolchain
-    emulator = toolchain / "bin" / "qemu-x86_64"
-    before = [str(emulator)] if os.access(emulator, os.X_OK) else []
-    return [*before, str(toolchain / "lib" / "ld-linux-x86-64.so.2"), "--library-path", str(toolchain / "lib"), str(ROOT / "target" / "bin" / name)]
+    return [str(repository.CRATES / name / "out" / name)]
 
 
 def run(words, **more):
@@ -158,8 +154,8 @@ def ended(room):
 
 def main():
     for name in ("tablecheck", "tablerescue", "tablefigures"):
-        if not (ROOT / "target" / "bin" / name).exists():
-            print(f"try_programs: {name} is not built; rt check {name} makes it")
+        if not pathlib.Path(*command(name)).exists():
+            print(f"try_programs: {name} is not built; rt ci makes it")
             return 2
     with tempfile.TemporaryDirectory() as folder:
         for trials in (check, rescue, figures, ended):

@@ -169,7 +169,8 @@ module _ (ns : List ℕ) {marks : List ℕ} {before : List Argument} (known : Kn
     known = λ i. known_other searches known _ (λ x. name_none ns x left k_is d ∙ has_anywhere ns i left x);
   }
 
-  module _ (h : k ≡ kind_named) {x : Name} (x-is : x ≡ name_of ns (node_of 0 left)) {m : List ℕ} (m_is : m ≡ noted marks x)
+  module _ (h : k ≡ kind_named) {x : Name} (x-is : x ≡ name_of ns (node_of 0 left)) {m : List ℕ}
+      (m_is : m ≡ noted marks x)
     where
       pub meets_searched : {r : Found} → Earlier x before r → Meets ns before left m r
       meets_searched r-is = record {

@@ -4,6 +4,8 @@
 // set of names is a search.
 // Copyright 2018 The Starlark in Rust Authors. Copyright (c) Facebook, Inc. and its affiliates.
 // Licensed under Apache-2.0.
+#![tactic(auto)]
+
 ghost use Rattle.std.specs.Prelude.{◌≡◌, ◌<◌, ◌≤◌, length, take};
 ghost use Rattle.forest.specs.Forest.{node_of, forest, tree_of};
 ghost use Rattle.forest.specs.Marks.{Known};
@@ -12,7 +14,7 @@ ghost use Rattle.table.specs.Check.{Headed, Within, headed_of};
 ghost use Rattle.arguments.specs.Written.{kind_at, arguments_in};
 ghost use Rattle.arguments.specs.Call.{past_positional, past_named, in_kwargs, first_same, new_name};
 ghost use Rattle.arguments.specs.Call.{positional_rule, args_rule, kwargs_rule, named_rule, rule as rule_of};
-ghost use Rattle.arguments.specs.Call.{next_stage, count as count_of, advance as advanceOf, unpack as unpackOf};
+ghost use Rattle.arguments.specs.Call.{next_stage, count as count_of, advance as advance_of, unpack as unpack_of};
 ghost use Rattle.arguments.specs.Reading.{SmallCheck, Earlier, Meets};
 ghost use Rattle.arguments.specs.Job.{name_stop, name_span, check_answer, outcome_answer, call_answer, called, call_of};
 
@@ -21,7 +23,7 @@ use soundness::kinds;
 use table::{Checked, Entries, Place, Refusal, Span, Wanted, named, numbers};
 
 // The stage of unpack: how far it is in the arguments, in this order.
-#[derive(Drop)]
+#[derive(Clone, Copy)]
 pub enum ArgsStage {
     Positional,
     Named,
@@ -30,7 +32,7 @@ pub enum ArgsStage {
 }
 
 // An argument's kind.
-#[derive(Drop)]
+#[derive(Clone, Copy)]
 pub enum Kind {
     Positional,
     Named,
@@ -39,7 +41,7 @@ pub enum Kind {
 }
 
 // A list of arguments in numbers: how many are positional and named, and the places of the star and the `**`.
-#[derive(Drop)]
+#[derive(Clone, Copy)]
 pub struct CallArgs {
     pub num_pos: u32,
     pub num_named: u32,
@@ -48,7 +50,7 @@ pub struct CallArgs {
 }
 
 // All that unpack keeps from one argument to the next.
-#[derive(Drop)]
+#[derive(Clone, Copy)]
 pub struct Walk {
     pub stage: ArgsStage,
     pub counts: CallArgs,
@@ -56,7 +58,7 @@ pub struct Walk {
 
 // The result of checking one argument: fine, the number of a refusal at it, or 22 at its name with the node of the
 // earlier argument.
-#[derive(Drop)]
+#[derive(Clone, Copy)]
 pub enum Check {
     Fine,
     Broken(u32),
@@ -64,7 +66,7 @@ pub enum Check {
 }
 
 // The answer of the call job.
-#[derive(Drop)]
+#[derive(Clone, Copy)]
 pub enum Called {
     Accepted(CallArgs),
     Refused(Refusal),
@@ -113,7 +115,7 @@ fn arguments(t: &[u8], names: &[u8], node: usize) -> Called
 fn unpack(args: &[u8], names: &[u8], first: usize) -> Called
     requires { Within first args.now }
     ensures { called result ≡
-        outcome_answer (unpackOf (arguments_in names.now (forest first args.now))) }
+        outcome_answer (unpack_of (arguments_in names.now (forest first args.now))) }
 {
     if marks::LONG <= args.len() {
         return with_many(args, names, first);
@@ -129,7 +131,7 @@ fn unpack(args: &[u8], names: &[u8], first: usize) -> Called
 fn with_many(args: &[u8], names: &[u8], first: usize) -> Called
     requires { Within first args.now }
     ensures { called result ≡
-        outcome_answer (unpackOf (arguments_in names.now (forest first args.now))) }
+        outcome_answer (unpack_of (arguments_in names.now (forest first args.now))) }
 {
     let mut noted = [0u8; marks::MANY];
     in_turn(args, names, first, &mut noted)
@@ -138,7 +140,7 @@ fn with_many(args: &[u8], names: &[u8], first: usize) -> Called
 fn with_some(args: &[u8], names: &[u8], first: usize) -> Called
     requires { Within first args.now }
     ensures { called result ≡
-        outcome_answer (unpackOf (arguments_in names.now (forest first args.now))) }
+        outcome_answer (unpack_of (arguments_in names.now (forest first args.now))) }
 {
     let mut noted = [0u8; marks::SOME];
     in_turn(args, names, first, &mut noted)
@@ -148,7 +150,7 @@ fn with_some(args: &[u8], names: &[u8], first: usize) -> Called
 fn in_turn(args: &[u8], names: &[u8], first: usize, noted: &mut [u8]) -> Called
     requires { Within first args.now }
     ensures { called result ≡
-        outcome_answer (unpackOf (arguments_in names.now (forest first args.now))) }
+        outcome_answer (unpack_of (arguments_in names.now (forest first args.now))) }
 {
     let mut w = Walk {
         stage: ArgsStage::Positional,
@@ -424,7 +426,7 @@ fn count(c: CallArgs, place: u32, kind: Kind) -> CallArgs
 // The state after an argument of a kind, at this place among the arguments.
 fn advance(w: Walk, place: u32, kind: Kind) -> Walk
     requires { (w.counts.num_pos < 4294967295) × (w.counts.num_named < 4294967295) }
-    ensures { result ≡ advanceOf w place kind }
+    ensures { result ≡ advance_of w place kind }
 {
     let stage = w.stage;
     let counts = w.counts;

@@ -1,8 +1,8 @@
 -- How many refusals there can be, so that no count overflows: a record has at most two, one by its kind and one by its
--- role (`there_few`), because a job gives one answer. There are as many trees as nodes (`count_tree_lem`, by induction on
--- the tree), so a part of the table of n bytes has at most n / 12 refusals (`each_few`, `tree_few`). The refusals of
--- two lists of trees are those of each (`refusals_append`, by induction on the first list). Cite `each_few`, `tree_few`
--- and `refusals_append`. Assumes nothing.
+-- role (`there_few`), because a job gives one answer. There are as many trees as nodes (`count_tree_lem`, by
+-- induction on the tree), so a part of the table of n bytes has at most n / 12 refusals (`each_few`, `tree_few`). The
+-- refusals of two lists of trees are those of each (`refusals_append`, by induction on the first list). Cite
+-- `each_few`, `tree_few` and `refusals_append`. Assumes nothing.
 use mathlib.Core.Path.{◌≡◌, refl, sym}
 use mathlib.Core.Bool.{Bool, true, false}
 use mathlib.Core.List.{List, [], ◌∷◌, ◌++◌, append_assoc}

@@ -13,7 +13,7 @@ use Rattle.dialect.specs.declared.Dialect.{Dialect}
 use Rattle.dialect.specs.declared.Edition.{Edition}
 use Rattle.dialect.specs.declared.EditionRead.{EditionRead}
 use Rattle.dialect.specs.Editions.{edition_of}
-use Rattle.forest.specs.Forest.{forest, count}
+use Rattle.forest.specs.Forest.{forest}
 use Rattle.forest.proofs.Stretch.{count_forest}
 use Rattle.table.specs.Answer.{Answer, accepted, number_of, carried, refusal}
 use Rattle.table.specs.Check.{by_rules, unruled, ruled, rules_of}

@@ -1,9 +1,10 @@
 -- The refusals at one record, one law for each `return` of records.rt. A refusal becomes an error with the node and
 -- span that it carries (`error_bare`, `error_placed`, `error_spanned`), and is stored if there is room (`push_none`,
--- `push_one`). The kind of the record decides which job runs: a parameter list, a call or an assignment (`kind_def_lem` ..
--- `kind_other`). Its role decides whether the target or the type job runs (`role_target`, `role_type`, `role_plain`).
--- Each job reads the bytes as its own crate promises, and the record is part of a table, so the tree is the same
--- (table's `headed_all`). There is no induction. Both together are `there_both`. Assumes nothing.
+-- `push_one`). The kind of the record decides which job runs: a parameter list, a call or an assignment
+-- (`kind_def_lem` .. `kind_other`). Its role decides whether the target or the type job runs (`role_target`,
+-- `role_type`, `role_plain`). Each job reads the bytes as its own crate promises, and the record is part of a table,
+-- so the tree is the same (table's `headed_all`). There is no induction. Both together are `there_both`. Assumes
+-- nothing.
 use mathlib.Core.Path.{◌≡◌, refl, sym, ap, ◌∙◌}
 use mathlib.Core.Bool.{false}
 use mathlib.Core.List.{List, [], ◌++◌}
@@ -124,7 +125,8 @@ module _ (names : List ℕ) (i : ℕ) (t : List ℕ) {k : ℕ} (k_is : k ≡ (no
         let other : eqb (node_of 0 t).kind kind_def ≡ false = rw is refl in
         list ∙ rw (other, eq-eqb (node_of 0 t).kind kind_lambda is) refl
 
-  pub kind_call_lem : Headed i t → k ≡ kind_call → (c : Called) → called c ≡ call_answer names (tree_of i (headed_of i t))
+  pub kind_call_lem : Headed i t → k ≡ kind_call → (c : Called)
+      → called c ≡ call_answer names (tree_of i (headed_of i t))
       → {es : List Err} → es ≡ answer_errors (called c) → es ≡ kind_errors names (tree_of i t)
   unfolding kind_errors wants
   kind_call_lem here h c c-is es-is =

@@ -40,7 +40,8 @@ module _ {k m : ℕ} (k_is : k ≡ m) where
   unfolding roles_of
   roles_for d h = rw (← k_is, h) refl
 
-  pub roles_other : (d : ℕ) → (k ≡ kind_for → ⊥) → (k ≡ kind_def → ⊥) → (k ≡ kind_assign → ⊥) → (k ≡ kind_assign_modify → ⊥)
+  pub roles_other : (d : ℕ) → (k ≡ kind_for → ⊥) → (k ≡ kind_def → ⊥) → (k ≡ kind_assign → ⊥)
+      → (k ≡ kind_assign_modify → ⊥)
       → (k ≡ kind_normal → ⊥) → (k ≡ kind_args_param → ⊥) → (k ≡ kind_kw_args_param → ⊥) → Nowhere ≡ roles_of m d
   unfolding roles_of
   roles_other d no-for no-def no-assign no-modify no-normal no_args_lem no_kwargs_lem = rw (
@@ -87,7 +88,8 @@ module _ (k : ℕ) {c : ℕ} (c-is : c ≡ class_of k) where
   pub return_plain : (c ≡ expression → ⊥) → Plain ≡ role_of ReturnType k
   return_plain h = rw (← c-is, ne_eqb c expression h) refl
 
-pub role_return : {roles : Roles} (k : ℕ) {r : Role} → roles ≡ ReturnType → r ≡ role_of ReturnType k → r ≡ role_of roles k
+pub role_return : {roles : Roles} (k : ℕ) {r : Role} → roles ≡ ReturnType → r ≡ role_of ReturnType k
+    → r ≡ role_of roles k
 role_return k h r-is = r-is ∙ rw h refl
 
 -- the children of the first record of t, as the code cuts them out

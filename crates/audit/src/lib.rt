@@ -1,6 +1,8 @@
 // The audit: every job on every node that it fits, in a table that is checked once. First come the errors of the module
 // pass without those of parameter lists, then the refusals of the jobs, record by record. All are counted; those that
 // fit are stored in a lent list of words.
+#![tactic(auto)]
+
 mod places;
 mod records;
 mod walk;
@@ -17,7 +19,7 @@ use table::Ruled;
 use validate::Listed;
 
 // The role of a record, which its parent gives it.
-#[derive(Drop)]
+#[derive(Clone, Copy)]
 pub enum Role {
     AsTarget,
     AsType,
@@ -25,7 +27,7 @@ pub enum Role {
 }
 
 // Which of some siblings have a role.
-#[derive(Drop)]
+#[derive(Clone, Copy)]
 pub enum Roles {
     Nowhere,
     TargetFirst,

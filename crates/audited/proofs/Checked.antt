@@ -30,7 +30,7 @@ use Rattle.audit.specs.declared.Role.{Role}
 use Rattle.audit.specs.declared.Role.TheVariants.{AsTarget, AsType, Plain}
 use Rattle.audit.specs.declared.Roles.{Roles}
 use Rattle.audit.specs.declared.Roles.TheVariants.{Nowhere, TargetFirst, TypeFirst, TypeSecond, ReturnType}
-use Rattle.audit.specs.Roles.{if_typed as rolesIf, roles_of, role_of, roles_after, Placed, kind_in, placed_tree}
+use Rattle.audit.specs.Roles.{if_typed as roles_if, roles_of, role_of, roles_after, Placed, kind_in, placed_tree}
 use Rattle.audit.specs.Roles.{placed}
 use Rattle.audit.specs.Job.{audit_of}
 use Rattle.deflist.specs.Written.{root_in}
@@ -108,7 +108,8 @@ module _ (test : Role → Bool) (these : ℕ → ℕ → Forest → List Tree)
     forth roles (t then ts) a =
         let role = role_of roles (kind_in t) in
         let here = tree_forth role t (all_left Q (placed_tree role t) (placed (roles_after roles) ts) a) in
-        let rest = forth (roles_after roles) ts (all_right Q (placed_tree role t) (placed (roles_after roles) ts) a) in (
+        let right = all_right Q (placed_tree role t) (placed (roles_after roles) ts) a in
+        let rest = forth (roles_after roles) ts right in (
           first_forth P (test role) t (roled test (roles_after roles) ts) here.0 rest.0,
           each_both P (everywhere_in these t) (everywhere these ts) here.1 rest.1,
         )
@@ -188,21 +189,22 @@ no_target_return (t then ts) = go (eqb (class_of (kind_in t)) expression) (no_ta
     go false rest = rest
 
 no_target_if : (b : Bool) (roles : Roles) (ks : Forest) → roled is_target roles ks ≡ []
-    → [] ≡ roled is_target (rolesIf b roles) ks
+    → [] ≡ roled is_target (roles_if b roles) ks
 no_target_if true roles ks e = sym e
 no_target_if false roles ks e = sym (none_after is_target refl ks)
 
 targets_are : (k d : ℕ) (ks : Forest) → targets_of k d ks ≡ roled is_target (roles_of k d) ks
 unfolding targets_of roles_of
-targets_are k d ks = go (eqb k kind_for) (eqb k kind_def) (eqb k kind_assign || eqb k kind_assign_modify) (eqb k kind_normal)
+targets_are k d ks =
+    go (eqb k kind_for) (eqb k kind_def) (eqb k kind_assign || eqb k kind_assign_modify) (eqb k kind_normal)
     (eqb k kind_args_param || eqb k kind_kw_args_param)
   where
     go : (a b c e f : Bool) → if' a (λ _. first_of ks) (λ _. [])
         ≡ roled is_target (if' a (λ _. TargetFirst) (λ _.
-        if' b (λ _. rolesIf (eqb d 1) ReturnType) (λ _.
-        if' c (λ _. rolesIf (eqb d 1) TypeSecond) (λ _.
-        if' e (λ _. rolesIf (eqb d 1 || eqb d 3) TypeFirst) (λ _.
-        if' f (λ _. rolesIf (eqb d 1) TypeFirst) (λ _. Nowhere)))))) ks
+        if' b (λ _. roles_if (eqb d 1) ReturnType) (λ _.
+        if' c (λ _. roles_if (eqb d 1) TypeSecond) (λ _.
+        if' e (λ _. roles_if (eqb d 1 || eqb d 3) TypeFirst) (λ _.
+        if' f (λ _. roles_if (eqb d 1) TypeFirst) (λ _. Nowhere)))))) ks
     go true b c e f = target_first ks
     go false true c e f = no_target_if (eqb d 1) ReturnType ks (no_target_return ks)
     go false false true e f = no_target_if (eqb d 1) TypeSecond ks (no_target_second ks)
@@ -239,7 +241,7 @@ type_return (t then ts) = go (eqb (class_of (kind_in t)) expression) (type_retur
     go false rest = rest
 
 type_if : (b : Bool) (l : List Tree) (roles : Roles) (ks : Forest) → l ≡ roled is_type roles ks
-    → if_typed b l ≡ roled is_type (rolesIf b roles) ks
+    → if_typed b l ≡ roled is_type (roles_if b roles) ks
 type_if true l roles ks e = e
 type_if false l roles ks e = sym (none_after is_type refl ks)
 
@@ -252,10 +254,10 @@ types_are k d ks = by_for (eqb k kind_for) refl
         if' c (λ _. if_typed (eqb d 1) (second_of ks)) (λ _.
         if' e (λ _. if_typed (eqb d 1 || eqb d 3) (first_of ks)) (λ _.
         if' f (λ _. if_typed (eqb d 1) (first_of ks)) (λ _. []))))
-        ≡ roled is_type (if' b (λ _. rolesIf (eqb d 1) ReturnType) (λ _.
-        if' c (λ _. rolesIf (eqb d 1) TypeSecond) (λ _.
-        if' e (λ _. rolesIf (eqb d 1 || eqb d 3) TypeFirst) (λ _.
-        if' f (λ _. rolesIf (eqb d 1) TypeFirst) (λ _. Nowhere))))) ks
+        ≡ roled is_type (if' b (λ _. roles_if (eqb d 1) ReturnType) (λ _.
+        if' c (λ _. roles_if (eqb d 1) TypeSecond) (λ _.
+        if' e (λ _. roles_if (eqb d 1 || eqb d 3) TypeFirst) (λ _.
+        if' f (λ _. roles_if (eqb d 1) TypeFirst) (λ _. Nowhere))))) ks
     others true c e f = type_if (eqb d 1) (expressions_of ks) ReturnType ks (type_return ks)
     others false true e f = type_if (eqb d 1) (second_of ks) TypeSecond ks (type_second ks)
     others false false true f = type_if (eqb d 1 || eqb d 3) (first_of ks) TypeFirst ks (type_first ks)

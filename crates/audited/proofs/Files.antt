@@ -30,7 +30,7 @@ use Rattle.table.specs.declared.Wanted.TheVariants.{Parameters, Call, Assignment
 use Rattle.table.proofs.Entering.{given_known}
 use Rattle.table.proofs.Ruling.{rules_known}
 use Rattle.table.proofs.Filed.{All, Told, all_tree, all_row}
-use Rattle.deflist.specs.Written.{Param, node_in, kind_in as kindOfParam, params_in, root_in, written_in}
+use Rattle.deflist.specs.Written.{Param, node_in, kind_in as kind_of_param, params_in, root_in, written_in}
 use Rattle.deflist.specs.Unpack as def
 use Rattle.deflist.specs.Limited.{limited}
 use Rattle.deflist.specs.Told.{told}
@@ -85,8 +85,8 @@ module _ (t : List ℕ) where
   unfolding every_mark
   every_mark_lem m [] h = tt
   every_mark_lem m (p ∷ ps) h =
-      both (mark_error m (node_in p) (kindOfParam p)) (every_mark m ps)
-      (unless_at (not (is_mark m (kindOfParam p))) (not_permitted m) (node_in p) h.0) (every_mark_lem m ps h.1)
+      both (mark_error m (node_in p) (kind_of_param p)) (every_mark m ps)
+      (unless_at (not (is_mark m (kind_of_param p))) (not_permitted m) (node_in p) h.0) (every_mark_lem m ps h.1)
 
   marks_at : (d : Dialect) (m : Mark) (ps : List Param) → AllOf Here ps → Errs (marks d m ps)
   marks_at d m ps h = go (permits d m)

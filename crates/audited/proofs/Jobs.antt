@@ -103,7 +103,8 @@ module _ (names : List ℕ) (tree : Tree) where
       → kind_errors names tree ≡ []
   unfolding kind_errors
   kind_quiet list call assign =
-      go (wants Parameters (kind_in tree)) (wants Call (kind_in tree)) (wants Assignment (kind_in tree)) list call assign
+      go (wants Parameters (kind_in tree)) (wants Call (kind_in tree)) (wants Assignment (kind_in tree)) list call
+      assign
     where
       go : (p c a : Bool) → (p ≡ true → unpack_error (told (limited (root_in tree) (written_in names tree))) ≡ [])
           → (c ≡ true → answer_errors (call_answer names tree) ≡ [])
@@ -130,7 +131,8 @@ module _ (t names bytes : List ℕ) (n : ℕ) {d : Dialect} {edition : Edition}
   unfolding node_fits
   fits_is w = rw (lt-ltb i (length t / 24) inside) (ap (wants w) (sym (kind_kept clean i inside)))
 
-  on_node_lem : (w : Wanted) (rule : Tree → Answer) → wants w (kind_in tree) ≡ true → on_node w rule t names i ≡ rule tree
+  on_node_lem : (w : Wanted) (rule : Tree → Answer) → wants w (kind_in tree) ≡ true
+      → on_node w rule t names i ≡ rule tree
   unfolding on_node
   on_node_lem w rule h = rw (sound_entry_lem w t names i (clean_accepted t names clean) (fits_is w ∙ h)) refl
 

@@ -146,7 +146,8 @@ module _ {t names : List ℕ} (c : Clean t names) where
       let below : Roles = roles_of (node_of i (part t i m)).kind (node_of i (part t i m)).detail in
       let kids = all_in_lem k below (i + 1) (size_at i - 1) (omega (arith, fits)) (omega (arith, fits))
       (kids_sound_lem i m room sound big) in
-      let rest = all_in_lem k (roles_after roles) (i + size_at i) (m - size_at i) (omega (arith, fits)) (omega (arith, fits))
+      let rest = all_in_lem k (roles_after roles) (i + size_at i) (m - size_at i) (omega (arith, fits))
+      (omega (arith, fits))
       (rest_sound i m room sound big) in
       all_cut roles i (part t i m) big (first_here i m room sound big _) (rw (kids_are i m room sound big) kids)
       (rw (rest_is i m room sound big, next_is i m room sound big) rest)

@@ -7,7 +7,7 @@
 use mathlib.Core.Path.{◌≡◌, refl, sym, ap, ◌∙◌}
 use mathlib.Core.Bool.{Bool, true, false, ◌&&◌, ◌||◌}
 use mathlib.Core.List.{List, []}
-use Prim.Native.Nat.{ℕ, ◌+◌, ◌-◌, ◌*◌, ◌/◌, ◌<◌, ◌≤◌}
+use Prim.Native.Nat.{ℕ, ◌+◌, ◌*◌, ◌/◌, ◌<◌, ◌≤◌}
 use native.Mathlib.Omega.{arith}
 use lib.ListN.{length, get_or, take, drop, length-map, length-take, length-drop}
 use lib.Dec.{eqb, ltb, leb}
@@ -164,7 +164,8 @@ module _ {t ns : List ℕ} {call def room : ℕ} (k : Entered t ns call def room
   table_short = (accepted_clean t ns k.sound).most
 
   -- the parameter job says what becomes of the def's list
-  pub params_say : params_of t ns def most_nodes ≡ answer_of (limited (node_of def (stretch_of t def)) (list_of t ns def))
+  pub params_say : params_of t ns def most_nodes
+      ≡ answer_of (limited (node_of def (stretch_of t def)) (list_of t ns def))
   unfolding params_of on_node list_answer list_of written
   params_say = rw (
     sound_entry_lem Parameters t ns def k.sound (def_fits t def k.is_adef),

@@ -138,7 +138,8 @@ module _ {ns x params : List ℕ} {s₀ : State} {left : List ℕ} {s : State} {
 
   module _ (l-yes : l ≡ true) {k : Kind} (k_is : k ≡ kind_here left) where
     module _ {b : Bool} (b_is : b ≡ (nameable s k && same (name_of ns (node_of 0 left)) x)) where
-      find_one : (i : ℕ) {e : ℕ} → e ≡ span_of left → named_from f x (flats_from s (params_in ns (forest (y.from i) left)))
+      find_one : (i : ℕ) {e : ℕ} → e ≡ span_of left
+          → named_from f x (flats_from s (params_in ns (forest (y.from i) left)))
           ≡ if' b (λ _. At f) (λ _. named_from (f + flats_of k) x (flats_from (next_state s k)
           (params_in ns (forest (y.from i + e / 24) (take (length left - e) (drop e left))))))
       unfolding flats_from
@@ -326,7 +327,8 @@ pub lay_start : (words list : List ℕ) → Laying words list list 0
 lay_start words list = record { upto = omega arith; long = refl; same = refl }
 
 module _ {words list₀ list : List ℕ} {i : ℕ} (y : Laying words list₀ list i) where
-  pub lay_on : i < length words → length words ≤ length list₀ → Laying words list₀ (set list i (get_or words i 0)) (i + 1)
+  pub lay_on : i < length words → length words ≤ length list₀
+      → Laying words list₀ (set list i (get_or words i 0)) (i + 1)
   lay_on h g =
       let more : set list i (get_or words i 0) ≡ take (suc i) words ++ drop (suc i) list₀ =
       rw (y.same, drop-cons list₀ i 0 (omega arith), take-suc words i 0 h)

@@ -128,7 +128,8 @@ module _ {k m : ℕ} (k_is : k ≡ m) where
   pub star_args_lem : k ≡ kind_args_arg → true ≡ is_star (kind_at m)
   star_args_lem h = ap is_star (kind_args k_is h)
 
-  pub star_kwargs : (k ≡ kind_positional → ⊥) → (k ≡ kind_named → ⊥) → (k ≡ kind_args_arg → ⊥) → true ≡ is_star (kind_at m)
+  pub star_kwargs : (k ≡ kind_positional → ⊥) → (k ≡ kind_named → ⊥) → (k ≡ kind_args_arg → ⊥)
+      → true ≡ is_star (kind_at m)
   star_kwargs d e f = ap is_star (kind_kwargs k_is d e f)
 
 -- an argument in its turn

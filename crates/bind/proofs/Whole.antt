@@ -172,7 +172,8 @@ module _ (t ns : List ℕ) (call def : ℕ) (c : Counted) (n : ℕ) (us vs list 
   unfolding stored
   lay_written h {list'} list_is = rw (← words_are) (go x (sym b_is ∙ h))
     where
-      go : (x : Checked) → is_refused x ≡ false → (checked x ≡ without (stored x vs)) × (list' ≡ laid (stored x vs) list)
+      go : (x : Checked) → is_refused x ≡ false
+          → (checked x ≡ without (stored x vs)) × (list' ≡ laid (stored x vs) list)
       go Sound e = (refl, list_is)
       go (Refused w) e = never (cc)
 

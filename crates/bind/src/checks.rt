@@ -3,7 +3,7 @@ ghost use Rattle.std.specs.Prelude.{◌≡◌};
 ghost use Rattle.table.specs.Answer.{checked};
 ghost use Rattle.bind.specs.Job.{entry_of, words_of};
 ghost use Rattle.bind.specs.Reading.{continued, IfKept};
-ghost use Rattle.bind.specs.Reading.{both as bothOf, OwnRules};
+ghost use Rattle.bind.specs.Reading.{both as both_of, OwnRules};
 
 use crate::entries;
 use arguments::Called;
@@ -29,7 +29,7 @@ fn enter(table: &[u8], names: &[u8], call: usize, def: usize, room: usize) -> Ch
 
 // The counts of a def's list, unless the list or the call is refused.
 fn both(unpacked: Unpacked, called: Called) -> Unpacked
-    ensures { result ≡ bothOf unpacked called }
+    ensures { result ≡ both_of unpacked called }
 {
     match unpacked {
         Unpacked::Refused(why) => Unpacked::Refused(why),

@@ -1,5 +1,7 @@
 // Which argument of a call reaches which parameter of a def (W-204). The parameter list is read as def.rs reads it, and
 // the arguments as call.rs does: the crates `deflist` and `arguments`.
+#![tactic(auto)]
+
 mod checks;
 mod entries;
 mod reaching;
@@ -22,7 +24,7 @@ use table::{Checked, MOST_NODES, Refusal};
 
 // What an argument reaches: it fills the ordinary parameter of a flat index, it joins what a star parameter collects,
 // or no parameter takes it.
-#[derive(Drop)]
+#[derive(Clone, Copy)]
 pub enum Reach {
     Fills(u32),
     Joins(u32),
@@ -30,7 +32,7 @@ pub enum Reach {
 }
 
 // The answer of the job: the flat count and the number of arguments, or a refusal.
-#[derive(Drop)]
+#[derive(Clone, Copy)]
 pub enum Bound {
     Accepted { flat: u32, many: u32 },
     Refused(Refusal),

@@ -5,8 +5,8 @@ ghost use Rattle.forest.specs.Names.{name_of, same};
 ghost use Rattle.table.specs.Check.{most_bytes};
 ghost use Rattle.deflist.specs.Unpack.{seen_slash};
 ghost use Rattle.arguments.specs.Written.{argument_of};
-ghost use Rattle.bind.specs.Binding.{named_from, collected as collectedOf, by_place, by_name, reaches as reachesOf};
-ghost use Rattle.bind.specs.Reading.{nameable as nameableOf, flats_of};
+ghost use Rattle.bind.specs.Binding.{named_from, collected as collected_of, by_place, by_name, reaches as reaches_of};
+ghost use Rattle.bind.specs.Reading.{nameable as nameable_of, flats_of};
 ghost use Rattle.bind.specs.Reading.{flats_in};
 
 use crate::Reach;
@@ -17,7 +17,7 @@ use table::Place;
 
 // Whether a parameter of a kind can be called by its name, in this state.
 fn nameable(state: State, kind: Kind) -> bool
-    ensures { result ≡ nameableOf state kind }
+    ensures { result ≡ nameable_of state kind }
 {
     match kind {
         Kind::Normal(_) => past_slash(state),
@@ -56,7 +56,7 @@ pub(crate) fn flats_of(kind: Kind) -> u32
 // Whether the first parameter of a stretch can be called by this name.
 fn takes(names: &[u8], name: &[u8], t: &[u8], state: State, kind: Kind) -> bool
     ensures { result ≡
-        (nameableOf state kind
+        (nameable_of state kind
         && same (name_of names.now (node_of 0 t.now)) name.now) }
 {
     if !nameable(state, kind) {
@@ -89,7 +89,7 @@ fn find(names: &[u8], name: &[u8], params: &[u8], only: u32) -> Place
 
 // What a star parameter collects.
 fn collected(place: Place) -> Reach
-    ensures { result ≡ collectedOf place }
+    ensures { result ≡ collected_of place }
 {
     match place {
         Place::At(i) => Reach::Joins(i),
@@ -122,7 +122,7 @@ fn by_name(found: Place, kwargs: Place) -> Reach
 pub(crate) fn reaches(names: &[u8], params: &[u8], d: DefParamIndices, k: u32, t: &[u8]) -> Reach
     requires { length params.now ≤ most_bytes }
     ensures { (i j : ℕ) → result ≡
-        reachesOf d (flats_in d.num_positional_only names.now i params.now) k
+        reaches_of d (flats_in d.num_positional_only names.now i params.now) k
         (argument_of names.now (node_of j t.now)) }
 {
     match forest::kind(t) {

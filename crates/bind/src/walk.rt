@@ -7,7 +7,7 @@ ghost use Rattle.deflist.specs.Written.{params_in};
 ghost use Rattle.deflist.specs.declared.State.{State as StateType};
 ghost use Rattle.arguments.specs.Written.{kind_at, arguments_in};
 ghost use Rattle.bind.specs.FlatList.{flats_from};
-ghost use Rattle.bind.specs.Binding.{unreached as unreachedOf, turn as turn_of, along as alongOf, is_star};
+ghost use Rattle.bind.specs.Binding.{unreached as unreached_of, turn as turn_of, along as along_of, is_star};
 ghost use Rattle.bind.specs.Binding.{star_check, empty_check, binding};
 ghost use Rattle.bind.specs.Reading.{Behind, is_empty};
 ghost use Rattle.bind.specs.Reading.{flats_in, stored};
@@ -53,7 +53,7 @@ fn first_star(args: &[u8], first: usize) -> Checked
 
 // The number of an argument that reaches no parameter.
 fn unreached(t: &[u8]) -> u32
-    ensures { result ≡ unreachedOf (kind_at (node_of 0 t.now).kind) }
+    ensures { result ≡ unreached_of (kind_at (node_of 0 t.now).kind) }
 {
     match forest::kind(t) {
         kinds::POSITIONAL => numbers::TOO_MANY_POSITIONAL,
@@ -106,7 +106,7 @@ fn along(
 ) -> Checked
     requires { Behind first args.now × (length params.now ≤ most_bytes) }
     ensures { (i : ℕ) → stored result words.new ≡
-        alongOf flat d (flats_in d.num_positional_only names.now i params.now) 0
+        along_of flat d (flats_in d.num_positional_only names.now i params.now) 0
         words.old (arguments_in names.now (forest first args.now)) }
 {
     let mut left = args;

@@ -1,5 +1,5 @@
 // The words of a binding: reading one, writing one, clearing all and writing them to the list.
-ghost use Rattle.std.specs.Prelude.{◌≡◌, ◌++◌, ◌+◌, ◌≤◌, length, get_or, set, drop, replicate};
+ghost use Rattle.std.specs.Prelude.{◌≡◌, ◌++◌, ◌≤◌, length, get_or, set, drop, replicate};
 
 // A word, 0 beyond the last.
 pub(crate) fn word(words: &[u32], i: usize) -> u32

@@ -376,6 +376,7 @@ changed_blocks (suc n) number total bs i v e h other =
     (le_or_lt 512 i)
 
 pub changed_run : (number total : ℕ) (bs : List ℕ) (i v : ℕ) → judge_run number total bs ≡ accepted []
-    → i < 512 * blocks_for total → (v ≡ get_or bs i 0 → ⊥) → judge_run number total (set bs i v) ≡ refused block_check []
+    → i < 512 * blocks_for total → (v ≡ get_or bs i 0 → ⊥)
+    → judge_run number total (set bs i v) ≡ refused block_check []
 unfolding judge_run
 changed_run number total bs i v e h other = changed_blocks (blocks_for total) number total bs i v e h other

@@ -1,4 +1,6 @@
 // Blocks of 512 bytes, each with a number, used bytes, content and sum (docs/FORMAT.md), judged one by one or as a run.
+#![tactic(auto)]
+
 pub mod bytes;
 
 ghost use Rattle.std.specs.Prelude.{◌≡◌, ◌+◌, ◌*◌, ◌≤◌, min, length, take, drop};
@@ -14,7 +16,7 @@ pub const BLOCK_BYTES: usize = 512;
 pub const CONTENT_BYTES: usize = 504;
 
 // The judgement of blocks: they pass, or are refused with a number.
-#[derive(Drop)]
+#[derive(Clone, Copy)]
 pub enum Judged {
     Passed,
     Refused(u32),

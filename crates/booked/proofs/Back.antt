@@ -5,9 +5,9 @@
 -- (`remove_add`, `remove_add_back`). A zone above 65,535 matches no entry (`wide_zone`). Assumes nothing.
 use mathlib.Core.Path.{◌≡◌, refl, sym, ap, ◌∙◌}
 use mathlib.Core.Bool.{Bool, true, false}
-use mathlib.Core.Logic.{◌⊎◌, ⊎_elim}
+use mathlib.Core.Logic.{⊎_elim}
 use mathlib.Core.List.{List, ◌++◌}
-use Prim.Native.Nat.{ℕ, zero, suc, ◌+◌, ◌*◌, ◌-◌, ◌/◌, ◌<◌, ◌≤◌}
+use Prim.Native.Nat.{ℕ, zero, suc, ◌+◌, ◌*◌, ◌/◌, ◌<◌, ◌≤◌}
 use native.Mathlib.Omega.{arith}
 use lib.ListN.{length, take, drop, replicate, length-drop}
 use lib.Seq.{length-take-le, take-add, take_all}
@@ -236,7 +236,8 @@ module _ {line : Bool} {book : List ℕ} {zone setting p : ℕ} (r : Removed lin
           (λ (other : i ≡ q → ⊥).
           let stays : entry_at (new a) i ≡ entry_at (without r) i = new_other a i other in
           let not-p : i ≡ p → ⊥ = λ same.
-          let z : zeros (entry_at (new a) i) ≡ true = ap zeros (stays ∙ ap (entry_at (without r)) same ∙ gone_there r) in
+          let z : zeros (entry_at (new a) i)
+          ≡ true = ap zeros (stays ∙ ap (entry_at (without r)) same ∙ gone_there r) in
           clash z taken in
           record {
             place = i;

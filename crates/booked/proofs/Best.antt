@@ -7,7 +7,7 @@ use mathlib.Core.Path.{◌≡◌, refl, sym, ap, ◌∙◌}
 use mathlib.Core.Bool.{Bool, true, false, ◌&&◌, not}
 use mathlib.Core.Logic.{⊎_elim}
 use mathlib.Core.List.{List}
-use Prim.Native.Nat.{ℕ, zero, suc, ◌-◌, ◌<◌, ◌≤◌}
+use Prim.Native.Nat.{ℕ, zero, suc, ◌<◌, ◌≤◌}
 use native.Mathlib.Omega.{arith}
 use lib.ListN.{length}
 use lib.Dec.{eqb, leb, ltb}
@@ -153,7 +153,8 @@ module _ {line : Bool} {book : List ℕ} (b : Passing line book) where
       let twice : again book p ≡ true = rw (a.other, seen) refl in
       clash (some_stop (again book) (places_of book) p inside twice) b.once
 
-  pub one_place : (p q : ℕ) → p < places_of book → q < places_of book → Alike (entry_at book p) (entry_at book q) → p ≡ q
+  pub one_place : (p q : ℕ) → p < places_of book → q < places_of book → Alike (entry_at book p) (entry_at book q)
+      → p ≡ q
   one_place p q hp hq a = ⊎_elim
       (λ (h : p ≤ q). ⊎_elim (λ (k : q ≤ p). let e : p ≡ q = omega arith in e)
       (λ (k : p < q). absurd (apart q p k hq a)) (le_or_lt q p))

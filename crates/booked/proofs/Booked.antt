@@ -126,7 +126,8 @@ module _ (zb lb : List ℕ) (zone setting : ℕ) (dialect : List ℕ) where
       added_passes bytes-z bytes-l = rw book_added (add_passes in_book (own_bytes zone zb lb bytes-z bytes-l))
 
 -- the two books after an addition of zone 0, and of another zone
-line_added_lem : (zb lb : List ℕ) (setting : ℕ) (dialect : List ℕ) {b p : ℕ} → add_of zb lb 0 setting dialect ≡ Placed b p
+line_added_lem : (zb lb : List ℕ) (setting : ℕ) (dialect : List ℕ) {b p : ℕ}
+    → add_of zb lb 0 setting dialect ≡ Placed b p
     → (zone_added zb lb 0 setting dialect ≡ zb)
     × (line_added zb lb 0 setting dialect ≡ put_entry lb p (entry_of 0 setting dialect))
 line_added_lem zb lb setting dialect {b} {p} e =
@@ -231,7 +232,8 @@ module _ (zb lb : List ℕ) (zone setting : ℕ) where
     removed_passes bytes-z bytes-l = rw book_removed (remove_passes from_book (own_bytes zone zb lb bytes-z bytes-l))
 
     -- after a removal an addition to that book is never 98: another entry of zone 0, or of a zone that is not 0
-    pub removed_room : (z s : ℕ) (dialect : List ℕ) → is_line z ≡ is_line zone → add_of zb⁻ lb⁻ z s dialect ≡ Bare 98 → ⊥
+    pub removed_room : (z s : ℕ) (dialect : List ℕ) → is_line z ≡ is_line zone
+        → add_of zb⁻ lb⁻ z s dialect ≡ Bare 98 → ⊥
     removed_room z s dialect same f = remove_room from_book z s dialect
         (rw (same, book_removed) at (sym (add_is zb⁻ lb⁻ z s dialect) ∙ f))
 
@@ -276,7 +278,8 @@ added_removed zb lb zone setting dialect b p e small bytes-z bytes-l =
     let new-book = book_added zb lb zone setting dialect b p e in
     let found : remove_of zb' lb' zone setting ≡ Placed b p = remove_is zb' lb' zone setting
     ∙ rw (new-book, a.number) (add_then_remove a bytes) in
-    let back : book_of zone (zone_removed zb' lb' zone setting) (line_removed zb' lb' zone setting) ≡ book_of zone zb lb =
+    let back : book_of zone (zone_removed zb' lb' zone setting) (line_removed zb' lb' zone setting)
+    ≡ book_of zone zb lb =
     book_removed zb' lb' zone setting b p found ∙ rw new-book (add_remove a bytes) in
     let both = both_same zone back (removed_other zb' lb' zone setting ∙ added_other zb lb zone setting dialect) in
     record { answered = found; zone_book = both.0; line_book = both.1 }

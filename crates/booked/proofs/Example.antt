@@ -50,8 +50,10 @@ common = put_entry blank 0 (entry_of 0 3 dialect)
 
 -- what computes a book and judges it: to unfold this is to unfold all of these
 unfoldable judging : Bool
-unfolding field bytes_of over within valid_bytes weighed sum_of before_sum block_of zeros examine judge blocks_for judge_blocks
-    judge_run every some entry_at sound_entry sound_place sound_places sound_book is_for seen_in seen_before again twice_in
+unfolding field bytes_of over within valid_bytes weighed sum_of before_sum block_of zeros examine judge blocks_for
+    judge_blocks
+    judge_run every some entry_at sound_entry sound_place sound_places sound_book is_for seen_in seen_before again
+    twice_in
     blank_blocks entry_of renewed put_entry
 judging = true
 
@@ -88,7 +90,8 @@ found = added_found blank blank 7 3 dialect 0 0 accepts (omega arith) blank_byte
 -- a lookup of zone 8 does not reach the place, and is unchanged
 pub elsewhere : lookup_of (zone_added blank blank 7 3 dialect) (line_added blank blank 7 3 dialect) 8 5
     ≡ lookup_of blank blank 8 5
-unfolding judging first_in empty_at place_to_add add_in add_of zone_after line_after zone_added line_added fits best_setting best_in
+unfolding judging first_in empty_at place_to_add add_in add_of zone_after line_after zone_added line_added fits
+    best_setting best_in
 elsewhere = added_elsewhere blank blank 7 3 dialect 0 0 accepts (omega arith) blank_bytes blank_bytes blank_both 8 5
     (λ (reaches : 0 ≡ 1). absurd (omega arith))
 

@@ -95,7 +95,8 @@ module _ (line : Bool) (n : ℕ) (some : 1 ≤ n) (most : n ≤ 100) where
       let j : ℕ = p / 21 in
       let i : ℕ = p % 21 in
       let at : 21 * j + i ≡ p = omega arith in
-      let piece = piece_zeros (drop 4 (drop (512 * j) (blank_blocks n))) i (omega arith) (block_zeros j (omega arith)) in
+      let piece = piece_zeros (drop 4 (drop (512 * j) (blank_blocks n))) i (omega arith)
+      (block_zeros j (omega arith)) in
       rw (place_piece (blank_blocks n) j i (omega arith), at) at piece
 
   -- THEOREM 5: an empty book passes

@@ -252,7 +252,8 @@ apart_once book n f = some_none (again book) n (λ p h. here p h (zeros (entry_a
     here p h true x-is = refl
     here p h false x-is = some_none
         (λ q. is_for (zone_of (entry_at book p)) (setting_of (entry_at book p)) (entry_at book q)) p
-        (λ q g. one p q h g x-is (is_for (zone_of (entry_at book p)) (setting_of (entry_at book p)) (entry_at book q)) refl)
+        (λ q g. one p q h g x-is (is_for (zone_of (entry_at book p)) (setting_of (entry_at book p)) (entry_at book q))
+        refl)
 
 -- an entry that no other place of a book has
 pub record Fresh (book : List ℕ) (p : ℕ) (e : List ℕ) : Type 0 where
@@ -304,6 +305,7 @@ module _ {line : Bool} {book : List ℕ} (b : Passing line book) (p : ℕ) (e : 
       let length-so : sound_length (length (put_entry book p e)) ≡ true = rw (put_length book p e h long) l in
       record {
         sound = and_both (sound_length (length (put_entry book p e))) _ length-so
-            (and_both (sound_blocks (put_entry book p e)) _ (put_blocks book p e h long small small-e bl) (put_sound s));
+            (and_both (sound_blocks (put_entry book p e)) _ (put_blocks book p e h long small small-e bl)
+            (put_sound s));
         once = put_once f;
       }

@@ -6,7 +6,7 @@
 use mathlib.Core.Path.{◌≡◌, refl, sym, ap, ◌∙◌}
 use mathlib.Core.Bool.{Bool, true, false, not}
 use mathlib.Core.List.{List, []}
-use Prim.Native.Nat.{ℕ, zero, suc, ◌+◌, ◌-◌, ◌≤◌}
+use Prim.Native.Nat.{ℕ, zero, suc, ◌+◌, ◌≤◌}
 use native.Mathlib.Omega.{arith}
 use lib.ListN.{take, drop}
 use lib.Seq.{take-take, drop-drop}
@@ -64,7 +64,8 @@ module _ {zb lb : List ℕ} (z : Passing false zb) (l : Passing true lb) (zone a
 
   -- THEOREM 1, the zone book: exactly
   pub zone_tells : (at : ℕ) → lookup_of zb lb zone asked ≡ Zone at → Tells zone asked zb at
-  zone_tells at e = go (best_in zone asked zb (places_of zb)) (best_in 0 asked lb (places_of lb)) refl (sym both_pass ∙ e)
+  zone_tells at e = go (best_in zone asked zb (places_of zb)) (best_in 0 asked lb (places_of lb)) refl
+      (sym both_pass ∙ e)
     where
       go : (a d : ℕ) → best_in zone asked zb (places_of zb) ≡ a → told a d ≡ Zone at → Tells zone asked zb at
       go (suc p) d a-is f =
@@ -80,7 +81,8 @@ module _ {zb lb : List ℕ} (z : Passing false zb) (l : Passing true lb) (zone a
   line_tells at e = go (best_in zone asked zb (places_of zb)) (best_in 0 asked lb (places_of lb)) refl refl
       (sym both_pass ∙ e)
     where
-      go : (a d : ℕ) → best_in zone asked zb (places_of zb) ≡ a → best_in 0 asked lb (places_of lb) ≡ d → told a d ≡ Line at
+      go : (a d : ℕ) → best_in zone asked zb (places_of zb) ≡ a → best_in 0 asked lb (places_of lb) ≡ d
+          → told a d ≡ Line at
           → NoneFits zone asked zb × Tells 0 asked lb at
       go (suc p) d a-is d-is f = never (cc)
       go zero (suc p) a-is d-is f =
@@ -96,7 +98,8 @@ module _ {zb lb : List ℕ} (z : Passing false zb) (l : Passing true lb) (zone a
   nothing_fits e = go (best_in zone asked zb (places_of zb)) (best_in 0 asked lb (places_of lb)) refl refl
       (sym both_pass ∙ e)
     where
-      go : (a d : ℕ) → best_in zone asked zb (places_of zb) ≡ a → best_in 0 asked lb (places_of lb) ≡ d → told a d ≡ Nothing
+      go : (a d : ℕ) → best_in zone asked zb (places_of zb) ≡ a → best_in 0 asked lb (places_of lb) ≡ d
+          → told a d ≡ Nothing
           → NoneFits zone asked zb × NoneFits 0 asked lb
       go (suc p) d a-is d-is f = never (cc)
       go zero (suc p) a-is d-is f = never (cc)
@@ -216,7 +219,8 @@ same_place {a} {b} {lb} pa pb l zone asked to back = go (best_in zone asked a (p
   where
     go : (n : ℕ) → best_in zone asked a (places_of a) ≡ n → lookup_of a lb zone asked ≡ lookup_of b lb zone asked
     go zero e =
-        let f : best_in zone asked b (places_of b) ≡ 0 = none_best pb (none_moves (keeps_within back) (best_none pa e)) in
+        let f : best_in zone asked b (places_of b)
+        ≡ 0 = none_best pb (none_moves (keeps_within back) (best_none pa e)) in
         rw (both_pass pa l zone asked, both_pass pb l zone asked, e, f) refl
     go (suc p) e =
         let high : Highest zone asked a p = best_highest pa p e in

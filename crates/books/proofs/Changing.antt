@@ -232,7 +232,8 @@ module _ (line : Bool) (book : List ℕ) (zone setting : ℕ) {b p : ℕ} where
   add_in_lem = go (sound_book line book) (twice_in book (places_of book)) (seen_in zone setting book (places_of book))
     where
       go : (s t v : Bool) → if' s (λ _. if' t (λ _. Refused 96 (book_number line)) (λ _.
-          if' v (λ _. Refused 96 (book_number line)) (λ _. found_or 98 line (first_in (empty_at book) (places_of book)))))
+          if' v (λ _. Refused 96 (book_number line))
+          (λ _. found_or 98 line (first_in (empty_at book) (places_of book)))))
           (λ _. Refused 95 (book_number line)) ≡ Placed b p → p < places_of book
       go true false false e = found_inside 98 line (places_of book) (first_in (empty_at book) (places_of book))
           (first_inside (empty_at book) (places_of book)) b p e
@@ -271,7 +272,8 @@ module _ (line : Bool) (book : List ℕ) (zone setting : ℕ) (dialect : List �
   unfolding add_in
   add_to f j-is r-is = sym r-is ∙ j-is ∙ rw (← m_is, f) refl
 
-pub written : (book : List ℕ) (b p : ℕ) {e f o : List ℕ} → e ≡ f → o ≡ put_entry book p e → o ≡ after (Placed b p) f book
+pub written : (book : List ℕ) (b p : ℕ) {e f o : List ℕ} → e ≡ f → o ≡ put_entry book p e
+    → o ≡ after (Placed b p) f book
 written book b p e-is o_is = rw e-is at o_is
 
 pub removed : (line : Bool) (book : List ℕ) (zone setting : ℕ) {j : Changed} → j ≡ remove_in line book zone setting

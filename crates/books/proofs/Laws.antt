@@ -196,7 +196,8 @@ unfolding best_in best_setting
 best_start zone asked book = record { upto = omega arith; inside = omega arith; is = refl; tops = refl }
 
 module _ {zone asked : ℕ} {book : List ℕ} {best top p : ℕ} (s : Best zone asked book best top p) where
-  module _ (h : p < places_of book) {e : List ℕ} (e-is : e ≡ entry_at book p) {w : ℕ} (w-is : w ≡ field 4 e 2) {f : Bool}
+  module _ (h : p < places_of book) {e : List ℕ} (e-is : e ≡ entry_at book p) {w : ℕ}
+      (w-is : w ≡ field 4 e 2) {f : Bool}
       (f-is : f ≡ fits zone asked e) where
     test_is : (f && ltb top w) ≡ (fits zone asked (entry_at book p)
         && ltb (best_setting book (best_in zone asked book p)) (setting_of (entry_at book p)))

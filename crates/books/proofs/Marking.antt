@@ -93,7 +93,8 @@ key_spelled e long small = rw (bytes_field 2 e 0 small (omega arith), bytes_fiel
     (sym (take-add 2 4 e))
 
 keys_same : (book : List ℕ) → Bytes book → {p q : ℕ} → p < places_of book → q < places_of book
-    → zone_of (entry_at book q) ≡ zone_of (entry_at book p) → setting_of (entry_at book q) ≡ setting_of (entry_at book p)
+    → zone_of (entry_at book q) ≡ zone_of (entry_at book p)
+    → setting_of (entry_at book q) ≡ setting_of (entry_at book p)
     → key_of (entry_at book q) ≡ key_of (entry_at book p)
 keys_same book small {p} {q} h g zones settings =
     sym (key_spelled (entry_at book q) (entry_there book q g) (entry_bytes book q small))
@@ -130,10 +131,12 @@ once_start book marks small = record {
 module _ {book first marks : List ℕ} {p : ℕ} (s : Once book first marks p) where
   -- an entry that is not marked did not occur before
   module _ (h : p < places_of book) (new : may_stand marks (key_of (entry_at book p)) ≡ false) where
-    not_for : (q : ℕ) → q < p → is_for (zone_of (entry_at book p)) (setting_of (entry_at book p)) (entry_at book q) ≡ false
+    not_for : (q : ℕ) → q < p
+        → is_for (zone_of (entry_at book p)) (setting_of (entry_at book p)) (entry_at book q) ≡ false
     not_for q g = go (is_for (zone_of (entry_at book p)) (setting_of (entry_at book p)) (entry_at book q)) refl
       where
-        go : (t : Bool) → is_for (zone_of (entry_at book p)) (setting_of (entry_at book p)) (entry_at book q) ≡ t → t ≡ false
+        go : (t : Bool) → is_for (zone_of (entry_at book p)) (setting_of (entry_at book p)) (entry_at book q) ≡ t
+            → t ≡ false
         go false e = refl
         go true e =
             let f : For (zone_of (entry_at book p)) (setting_of (entry_at book p)) (entry_at book q) = for_parts e in
@@ -143,7 +146,8 @@ module _ {book first marks : List ℕ} {p : ℕ} (s : Once book first marks p) w
 
     unseen : seen_before book p ≡ false
     unfolding seen_before seen_in
-    unseen = some_none (λ q. is_for (zone_of (entry_at book p)) (setting_of (entry_at book p)) (entry_at book q)) p not_for
+    unseen = some_none (λ q. is_for (zone_of (entry_at book p)) (setting_of (entry_at book p)) (entry_at book q)) p
+        not_for
 
   module _ (h : p < places_of book) {e : List ℕ} (e-is : e ≡ entry_at book p) {may : Bool}
       (may-is : may ≡ may_repeat marks e) {t : Bool} (t-is : t ≡ (may && seen_before book p)) where

@@ -26,7 +26,8 @@ pub judge_lookup_one : (zone_book line_book : List ℕ) (zone setting : ℕ) {r 
 judge_lookup_one zone_book line_book zone setting = coincide
 
 -- of `judge_book`, the book as lent
-pub judge_book_one : (book : List ℕ) (line : Bool) {r s : ℕ} → r ≡ judge_book line book → s ≡ judge_book line book → r ≡ s
+pub judge_book_one : (book : List ℕ) (line : Bool) {r s : ℕ} → r ≡ judge_book line book → s ≡ judge_book line book
+    → r ≡ s
 judge_book_one book line = coincide
 
 -- of `add`: the answer and the books at exit

@@ -95,4 +95,5 @@ twice_in book n = some (again book) n
 -- the judgement of one book: 95, 96, or 0 if it passes both
 unfoldable pub judge_book : Bool → List ℕ → ℕ
 judge_book line book =
-    if' (sound_book line book) (λ _. if' (twice_in book (places_of book)) (λ _. entry_twice) (λ _. 0)) (λ _. book_unsound)
+    if' (sound_book line book) (λ _. if' (twice_in book (places_of book)) (λ _. entry_twice) (λ _. 0))
+    (λ _. book_unsound)

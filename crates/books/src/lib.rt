@@ -1,6 +1,8 @@
 // The zone book and the line book: the dialect of a zone and a setting. A book is 1 to 100 blocks of 512 bytes with
 // 21 places of 24 bytes each (docs/FORMAT.md, Books). The setting edition has nothing to do with the edition of the
 // type rules.
+#![tactic(auto)]
+
 mod change;
 mod places;
 mod search;
@@ -16,7 +18,7 @@ use table::numbers;
 
 // The answer of a lookup: the position of the nine bytes in the zone book or in the line book; 95 or 96 with the number
 // of the book (0 the zone book, 1 the line book); or 97 (no entry fits).
-#[derive(Drop)]
+#[derive(Clone, Copy)]
 pub enum Looked {
     Zone(usize),
     Line(usize),
@@ -26,7 +28,7 @@ pub enum Looked {
 
 // The answer of an addition or a removal: the number of the book (0 the zone book, 1 the line book) and the place,
 // counted from 0; 95 or 96 with the number of the book; 97 or 98.
-#[derive(Drop)]
+#[derive(Clone, Copy)]
 pub enum Changed {
     Placed(u32, usize),
     Refused(u32, u32),

@@ -2,10 +2,16 @@
 // each rule. The cases are written in cases.txt, and in kinds.txt, which tools/kinds.py generates from the sentences
 // about the kinds of records (docs/FORMAT.md); tools/tables.py generates the requests from both, and the gate checks
 // that they agree.
+#![tactic(auto)]
+
 mod answers;
 
 use answers::Asked;
-use libc::STDOUT_FILENO;
+use std::fs::File;
+use std::io::{self, Read};
+
+// More than the largest length that a request can give its table.
+const MOST_GIVEN: usize = 65_536;
 
 // The head of a request: fields of two bytes, and the node in four.
 fn head_of(head: &[u8]) -> Asked {
@@ -24,64 +30,72 @@ fn head_of(head: &[u8]) -> Asked {
 }
 
 // Reads the next bytes of the file into the start of a buffer. Returns false if there were fewer.
-fn filled(fd: i32, space: &mut [u8], len: usize) -> bool {
+fn filled(input: &mut impl Read, space: &mut [u8], len: usize) -> bool {
     if space.len() < len {
         return false;
     }
-    io::read_full(fd, &mut space[0..len]) == len
+    input.read_exact(&mut space[0..len]).is_ok()
 }
 
 // Runs one request. Returns false at the end of the file.
-fn one(fd: i32) -> bool {
+fn one(rt: &impl Print, input: &mut impl Read) -> io::Result<bool> {
     let mut head = [0u8; 20];
-    if !filled(fd, &mut head, 20) {
-        return false;
+    if !filled(input, &mut head, 20) {
+        return Ok(false);
     }
     let a = head_of(&head);
     let mut label = [0u8; 256];
-    let mut table = io::large_buffer();
+    let mut table = [0u8; MOST_GIVEN];
     let mut names = [0u8; 8192];
     let mut dialect = [0u8; 16];
-    if !filled(fd, &mut label, a.label) {
-        return false;
+    if !filled(input, &mut label, a.label) {
+        return Ok(false);
     }
-    if !filled(fd, &mut table, a.table) {
-        return false;
+    if !filled(input, &mut table, a.table) {
+        return Ok(false);
     }
-    if !filled(fd, &mut names, a.names) {
-        return false;
+    if !filled(input, &mut names, a.names) {
+        return Ok(false);
     }
-    if !filled(fd, &mut dialect, a.dialect) {
-        return false;
+    if !filled(input, &mut dialect, a.dialect) {
+        return Ok(false);
     }
-    io::write_all(STDOUT_FILENO, answers::front(&label, a.label));
+    answers::say(rt, answers::front(&label, a.label))?;
     answers::answer(
+        rt,
         a,
         answers::front(&table, a.table),
         answers::front(&names, a.names),
         answers::front(&dialect, a.dialect),
-    );
-    io::write_all(STDOUT_FILENO, b"\n");
-    true
+    )?;
+    answers::say(rt, b"\n")?;
+    Ok(true)
 }
 
 // Runs all requests, at most as many as a field of the head can count.
-fn all(fd: i32) {
+fn all(rt: &impl Print, input: &mut impl Read) -> io::Result<()> {
     let mut left = 65536u64;
     while 0 < left {
-        if !one(fd) {
-            return;
+        if !one(rt, input)? {
+            return Ok(());
         }
         left -= 1;
     }
+    Ok(())
 }
 
-fn main() {
-    let fd = os::open_read(b"cases.bin");
-    if fd < 0 {
-        os::fail(b"cases.bin");
-        return;
+fn main(rt: HostRuntime) -> io::Result<()> {
+    match File::open(&rt, "cases.bin") {
+        Ok(mut input) => all(&rt, &mut input),
+        Err(why) => fail(&rt, "cases.bin", why),
     }
-    all(fd);
-    libc::close(fd);
+}
+
+// Writes a line to standard error: what failed, a colon, and why in the system's words, without the number after them.
+fn fail(rt: &(impl Eprint + AllocGlobal), what: &str, why: io::Error) -> io::Result<()> {
+    let text = format!(in rt.alloc(); "{why}")?;
+    match text.split_once(" (os error ") {
+        Some((words, _)) => eprintln!(rt; "{what}: {words}"),
+        None => eprintln!(rt; "{what}: {text}"),
+    }
 }

@@ -17,7 +17,7 @@ use Rattle.forest.specs.declared.Found.TheVariants.{At, Nothing}
 use Rattle.deflist.specs.Written.{Param, node_in, kind_in}
 use Rattle.deflist.specs.Unpack.{written_at, flat_at, counts, rule, firstly, repeats, check, start}
 use Rattle.deflist.specs.Unpack.{next_state, next_star, more_positional, count, advance, on, stop}
-use Rattle.deflist.specs.Unpack.{broken, again, keep, step, refused, repeated, run}
+use Rattle.deflist.specs.Unpack.{again, keep, step, refused, repeated, run}
 use Rattle.deflist.specs.Reading.{PlaceBelow, Bounded}
 use Rattle.deflist.specs.declared.Kind.{Kind}
 use Rattle.deflist.specs.declared.Kind.TheVariants.{Normal, NoArgs, Slash, Args, KwArgs}

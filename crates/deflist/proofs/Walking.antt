@@ -95,7 +95,8 @@ module _ (ns : List ℕ) {marks : List ℕ} {before : List Param} (known : Known
     known = λ i. known_other searches known _ (λ x. name_none ns x left k_is b_is h i);
   }
 
-  module _ (h : b ≡ true) {x : Name} (x-is : x ≡ name_of ns (node_of 0 left)) {ms : List ℕ} (ms-are : ms ≡ noted marks x)
+  module _ (h : b ≡ true) {x : Name} (x-is : x ≡ name_of ns (node_of 0 left)) {ms : List ℕ}
+      (ms-are : ms ≡ noted marks x)
       {m : ℕ} where
     pub meets_searched : {r : Found} → Earlier x before m r → Meets ns before left ms m r
     meets_searched r-is = record {
@@ -347,7 +348,8 @@ module _ {ns kids : List ℕ} {first : ℕ} {marks₀ : List ℕ} {u₀ : Unpack
           stopped (Broken m) x-is e = stopped_broken x-is (cc)
           stopped (Repeated i) x-is e = stopped_repeated x-is (cc)
 
-        pub judge_stop : (only : Flat) → u₀ ≡ start only → {t : Turn} → t ≡ turn_of judged (node_of at left) → {r : Fault}
+        pub judge_stop : (only : Flat) → u₀ ≡ start only → {t : Turn} → t ≡ turn_of judged (node_of at left)
+            → {r : Fault}
             → t ≡ Stops r
             → Says (run [] (start only) (params_in ns (forest first kids))) (first + length kids / 24) (Refused r)
         judge_stop only u₀-is t-is e = stopped _ (rw u₀-is at (here_then refl)) judged refl (sym e ∙ t-is)
@@ -402,7 +404,8 @@ unpack_not_slash ns kids first h = go (is_listed kids) refl
     go : (l : Bool) → is_listed kids ≡ l → unpack (params_in ns (forest first kids)) ≡ run
         [] (start (positional_only (first_slash (params_in ns (forest first kids))))) (params_in ns (forest first kids))
     go true e =
-        let miss : is_slash (kind_in (param_of ns (node_of first kids))) ≡ false = ap is_slash (kind_in_lem ns first kids)
+        let miss : is_slash (kind_in (param_of ns (node_of first kids)))
+        ≡ false = ap is_slash (kind_in_lem ns first kids)
         ∙ (rw e at h) in
         rw (list_on ns first kids e refl, miss) refl
     go false e = rw (list_end ns first kids e) refl

@@ -4,6 +4,8 @@
 // are compared instead of hashed, and the modes are left to the job.
 // Copyright 2018 The Starlark in Rust Authors. Copyright (c) Facebook, Inc. and its affiliates.
 // Licensed under Apache-2.0.
+#![tactic(auto)]
+
 pub mod entry;
 pub mod list;
 mod rules;
@@ -25,7 +27,7 @@ use table::{Span, numbers};
 pub const MOST_PARAMETERS: usize = 48;
 
 // The state of unpack: how far it is in the list, in this order.
-#[derive(Drop)]
+#[derive(Clone, Copy)]
 pub enum State {
     Normal,
     SeenSlash, // after `/`, or there is none
@@ -34,7 +36,7 @@ pub enum State {
 }
 
 // A parameter's kind, and whether a Normal has a default.
-#[derive(Drop)]
+#[derive(Clone, Copy)]
 pub enum Kind {
     Normal(bool),
     NoArgs,
@@ -44,27 +46,27 @@ pub enum Kind {
 }
 
 // A position in the written list, marks counted.
-#[derive(Drop)]
+#[derive(Clone, Copy)]
 pub struct Written(pub usize);
 
-#[derive(Drop)]
+#[derive(Clone, Copy)]
 pub enum WrittenPlace {
     AtWritten(Written),
     NoWritten,
 }
 
 // An index in the flat list, marks omitted.
-#[derive(Drop)]
+#[derive(Clone, Copy)]
 pub struct Flat(pub usize);
 
-#[derive(Drop)]
+#[derive(Clone, Copy)]
 pub enum FlatPlace {
     AtFlat(Flat),
     NoFlat,
 }
 
 // What unpack counts in the flat list, and its length.
-#[derive(Drop)]
+#[derive(Clone, Copy)]
 pub struct Counts {
     pub num_positional: Flat,
     pub num_positional_only: Flat,
@@ -74,7 +76,7 @@ pub struct Counts {
 }
 
 // All that unpack keeps from one parameter to the next.
-#[derive(Drop)]
+#[derive(Clone, Copy)]
 pub struct Unpacking {
     pub state: State,
     pub seen_optional: bool,
@@ -83,7 +85,7 @@ pub struct Unpacking {
 }
 
 // The result of checking one parameter: fine, the number of a refusal, or 11 with the node of the earlier parameter.
-#[derive(Drop)]
+#[derive(Clone, Copy)]
 pub enum Check {
     Fine,
     Broken(u32),
@@ -91,7 +93,7 @@ pub enum Check {
 }
 
 // A refusal at a parameter: its number, its node and its span, and for 11 the node of the earlier parameter.
-#[derive(Drop)]
+#[derive(Clone, Copy)]
 pub struct Fault {
     pub number: u32,
     pub node: usize,
@@ -100,14 +102,14 @@ pub struct Fault {
 }
 
 // The result of one turn: the walk goes on, or stops at this parameter.
-#[derive(Drop)]
+#[derive(Clone, Copy)]
 pub enum Turn {
     Passes,
     Stops(Fault),
 }
 
 // The result of unpack.
-#[derive(Drop)]
+#[derive(Clone, Copy)]
 pub enum Judged {
     Accepted(Counts),
     Refused(Fault),

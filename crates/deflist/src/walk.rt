@@ -9,10 +9,10 @@ ghost use Rattle.forest.specs.Forest.{record_bytes, node_of, forest};
 ghost use Rattle.forest.specs.Marks.{Known};
 ghost use Rattle.deflist.specs.Written.{params_in, written};
 ghost use Rattle.deflist.specs.Unpack.{first_same, firstly, rule as rule_of, one_more, more_positional};
-ghost use Rattle.deflist.specs.Unpack.{count as count_of, advance as advanceOf, run as run_of};
-ghost use Rattle.deflist.specs.Unpack.{start as start_of, unpack as unpackOf};
+ghost use Rattle.deflist.specs.Unpack.{count as count_of, advance as advance_of, run as run_of};
+ghost use Rattle.deflist.specs.Unpack.{start as start_of, unpack as unpack_of};
 ghost use Rattle.deflist.specs.declared.WrittenPlace.TheVariants.{AtWritten};
-ghost use Rattle.deflist.specs.Told.{fault as faultOf, turn_of};
+ghost use Rattle.deflist.specs.Told.{fault as fault_of, turn_of};
 ghost use Rattle.deflist.specs.Reading.{kind_here, begins_with_slash, Says, Finishes, Earlier, Meets};
 
 use crate::{
@@ -39,7 +39,7 @@ fn earlier(names: &[u8], name: &[u8], kids: &[u8], first: usize, n: Written) -> 
 
 // A refusal at the first record of a stretch, with the node of an earlier parameter.
 pub(crate) fn fault(number: u32, node: usize, t: &[u8], earlier: Found) -> Fault
-    ensures { result ≡ faultOf number (node_of node t.now) earlier }
+    ensures { result ≡ fault_of number (node_of node t.now) earlier }
 {
     Fault {
         number,
@@ -162,7 +162,7 @@ fn count(state: State, c: Counts, kind: Kind) -> Counts
 // The state after a parameter of a kind whose written position is i.
 fn advance(u: Unpacking, i: Written, kind: Kind) -> Unpacking
     requires { (u.counts.num_positional.0 < 2 ^ 63) × (u.counts.flat.0 < 2 ^ 63) }
-    ensures { result ≡ advanceOf u i kind }
+    ensures { result ≡ advance_of u i kind }
 {
     let state = u.state;
     let star = u.index_of_star;
@@ -249,7 +249,7 @@ fn slash_first(kids: &[u8]) -> bool
 // 10 first, then the parameters in turn; first is the node of the first record.
 fn unpack(names: &[u8], kids: &[u8], first: usize, marks: &mut [u8]) -> Judged
     requires { record_bytes * first + length kids.now < 2 ^ 64 }
-    ensures { Says (unpackOf (params_in names.now (forest first kids.now)))
+    ensures { Says (unpack_of (params_in names.now (forest first kids.now)))
         (first + length kids.now / record_bytes) result }
 {
     if slash_first(kids) {
@@ -262,7 +262,7 @@ fn unpack(names: &[u8], kids: &[u8], first: usize, marks: &mut [u8]) -> Judged
 // DefParams::unpack of the written list of the node whose subtree is the stretch: the counts, or the first refusal.
 // Notes names in the marks; what the marks hold before does not change the answer.
 pub(crate) fn judge(names: &[u8], t: &[u8], node: u32, marks: &mut [u8]) -> Judged
-    ensures { Says (unpackOf (written names.now node t.now))
+    ensures { Says (unpack_of (written names.now node t.now))
         (node + 1 + length t.now / record_bytes) result }
 {
     let kids = crate::children(t);

@@ -59,7 +59,8 @@ leading names (suc n) back (node r ks then f) h e =
     (ap (λ (l : List Param). param_of names r ∷ l) (leading names n back f h rest))
 
 module _ (t names : List ℕ) (i : ℕ) (sound : check_of t names ≡ accepted []) (within : i < length t / 24)
-    (def_or_lambda : ((node_of i (drop (24 * i) t)).kind ≡ kind_def) ⊎ ((node_of i (drop (24 * i) t)).kind ≡ kind_lambda)) where
+    (def_or_lambda : ((node_of i (drop (24 * i) t)).kind ≡ kind_def)
+    ⊎ ((node_of i (drop (24 * i) t)).kind ≡ kind_lambda)) where
   clean : Clean t names
   clean = accepted_clean t names sound
 

@@ -9,14 +9,16 @@ use Prim.Native.Nat.{ℕ, suc, ◌+◌}
 use native.Mathlib.Omega.{arith}
 use lib.ListN.{length, replicate}
 use lib.Seq.{drop-append_seam}
+use mathlib.Core.Bool.{false}
 use Rattle.fields.specs.Choice.{if'}
 use Rattle.forest.specs.Forest.{Node}
 use Rattle.table.specs.Numbers.{star_last, no_normal_after_star}
-use Rattle.deflist.specs.Written.{Param, no_args, slash, args, kwargs}
-use Rattle.deflist.specs.Unpack.{written_at, flat_at, seen_slash, seen_star, counts, modes_from, Outcome, accepted}
+use Rattle.deflist.specs.Written.{Param, no_args, slash, kwargs}
+use Rattle.deflist.specs.Unpack.{written_at, flat_at, seen_slash, seen_star, counts, count, modes_from, Outcome, accepted}
 use Rattle.deflist.specs.Unpack.{refused, from_star, finish}
 use Rattle.deflist.specs.declared.State.{State}
 use Rattle.deflist.specs.declared.State.TheVariants.{Normal as BeforeSlash, SeenSlash, SeenStar, SeenStarStar}
+use Rattle.deflist.specs.declared.Kind.TheVariants.{Normal}
 use Rattle.deflist.specs.declared.WrittenPlace.{WrittenPlace}
 use Rattle.deflist.specs.declared.WrittenPlace.TheVariants.{AtWritten, NoWritten}
 use Rattle.deflist.specs.declared.Flat.{Flat}
@@ -68,7 +70,7 @@ counts_ordinary : (s : State) (c : Counts) (qs : List Ordinary) (l : List Param)
 counts_ordinary s c [] l = ap (λ (x : Counts). counts_from s x l)
     (counts_path (add_zero s c.num_positional) refl refl refl (flat_path c.flat (omega arith)))
 counts_ordinary s c (q ∷ qs) l =
-    counts_ordinary s _ qs l ∙ ap (λ (x : Counts). counts_from s x l)
+    counts_ordinary s (count s c (Normal false)) qs l ∙ ap (λ (x : Counts). counts_from s x l)
     (counts_path (add_suc s c.num_positional (length (ordinary qs))) refl refl refl
     (ap flat_at (omega arith)))
 

@@ -17,7 +17,7 @@ use Rattle.fields.proofs.Basics.{clash, never}
 use Rattle.forest.specs.Forest.{Node}
 use Rattle.deflist.specs.Written.{Param, normal, no_args, slash, args, kwargs, kind_in}
 use Rattle.deflist.specs.Unpack.{written_at, flat_at, is_slash, slash_from, first_slash, positional_only, first_state}
-use Rattle.deflist.specs.Unpack.{start, finish, Outcome, accepted, refused, run, unpack, modes_from, modes}
+use Rattle.deflist.specs.Unpack.{start, finish, Outcome, accepted, run, unpack, modes_from, modes}
 use Rattle.deflist.specs.declared.State.{State}
 use Rattle.deflist.specs.declared.State.TheVariants.{Normal as BeforeSlash, SeenSlash}
 use Rattle.deflist.specs.declared.Written.{Written}

@@ -34,20 +34,25 @@ use Rattle.demand3.proofs.Demand3.{ranges_are_the_cuts, nineteen_iff_long}
 
 -- the table is sound
 pub sound : check_of table names ≡ accepted []
-unfolding check_of length_sound field size_of kids_of rest_of forest_in forest count count_tree same kind_in kind_of name_sound
-    span_sound source_sound fields_sound whole_trees classes permitted wanted permits kids_sound sound_node sound_at root_sound
-    file_sound ends_by top_of files_of context_of record_sound first_false first_unsound class_weight weight first_deep deep_in
+unfolding check_of length_sound field size_of kids_of rest_of forest_in forest count count_tree same kind_in kind_of
+    name_sound
+    span_sound source_sound fields_sound whole_trees classes permitted wanted permits kids_sound sound_node sound_at
+    root_sound
+    file_sound ends_by top_of files_of context_of record_sound first_false first_unsound class_weight weight first_deep
+    deep_in
 sound = refl
 
 -- what is given: with a byte more in the buffer than there are written parameters
 pub given : Given table names 0 buffer
-unfolding list_of written params_in param_of kind_at stretch_of field size_of kids_of rest_of forest_in forest kind_in kind_of
+unfolding list_of written params_in param_of kind_at stretch_of field size_of kids_of rest_of forest_in forest kind_in
+    kind_of
     name_of
 given = record { sound = sound; within = omega arith; def_or_lambda = inl refl; room = omega arith }
 
 -- the written list is the cut joined
 pub joins : join cut ≡ list_of table names 0
-unfolding list_of written params_in param_of kind_at stretch_of field size_of kids_of rest_of forest_in forest kind_in kind_of
+unfolding list_of written params_in param_of kind_at stretch_of field size_of kids_of rest_of forest_in forest kind_in
+    kind_of
     name_of
 joins = refl
 
@@ -63,7 +68,8 @@ good = record {
 
 -- and it is within the limit
 pub short : length (all_parameters table names 0) ≤ most_parameters
-unfolding parameters_in param_of kind_at stretch_of field size_of kids_of rest_of forest_in forest kind_in kind_of name_of
+unfolding parameters_in param_of kind_at stretch_of field size_of kids_of rest_of forest_in forest kind_in kind_of
+    name_of
 short = omega arith
 
 pub is_cut : CutOf (list_of table names 0) cut
@@ -77,26 +83,32 @@ answer = ranges_are_the_cuts table names 0 buffer given short cut is_cut
 -- and the buffer then holds the five modes, and three bytes as they were
 pub filled : modes_after table names 0 buffer
     ≡ mode_pos_only ∷ mode_pos_or_name ∷ mode_args ∷ mode_name_only ∷ mode_kwargs ∷ 255 ∷ 255 ∷ 255 ∷ []
-unfolding modes_after modes modes_from slash_from list_of written params_in param_of kind_at stretch_of field size_of kids_of
+unfolding modes_after modes modes_from slash_from list_of written params_in param_of kind_at stretch_of field size_of
+    kids_of
     rest_of forest_in forest kind_in kind_of name_of
 filled = rw answer refl
 
 -- a def with 49 parameters: its table is sound
 pub long_sound : check_of long_table names ≡ accepted []
-unfolding check_of length_sound field size_of kids_of rest_of forest_in forest count count_tree same kind_in kind_of name_sound
-    span_sound source_sound fields_sound whole_trees classes permitted wanted permits kids_sound sound_node sound_at root_sound
-    file_sound ends_by top_of files_of context_of record_sound first_false first_unsound class_weight weight first_deep deep_in
+unfolding check_of length_sound field size_of kids_of rest_of forest_in forest count count_tree same kind_in kind_of
+    name_sound
+    span_sound source_sound fields_sound whole_trees classes permitted wanted permits kids_sound sound_node sound_at
+    root_sound
+    file_sound ends_by top_of files_of context_of record_sound first_false first_unsound class_weight weight first_deep
+    deep_in
 long_sound = refl
 
 -- what is given holds of it, with a byte in the buffer for each parameter
 pub long_given : Given long_table names 0 long_buffer
-unfolding list_of written params_in param_of kind_at stretch_of field size_of kids_of rest_of forest_in forest kind_in kind_of
+unfolding list_of written params_in param_of kind_at stretch_of field size_of kids_of rest_of forest_in forest kind_in
+    kind_of
     name_of
 long_given = record { sound = long_sound; within = omega arith; def_or_lambda = inl refl; room = omega arith }
 
 -- it is over the limit
 pub over : most_parameters < length (all_parameters long_table names 0)
-unfolding parameters_in param_of kind_at stretch_of field size_of kids_of rest_of forest_in forest kind_in kind_of name_of
+unfolding parameters_in param_of kind_at stretch_of field size_of kids_of rest_of forest_in forest kind_in kind_of
+    name_of
 over = omega arith
 
 -- so the answer is 19 at the def, though its parameters all have one name, which alone would be 11

@@ -43,7 +43,8 @@ pub list_fits : (t : List ℕ) (node : ℕ) → node < length t / 24
 unfolding node_fits wants
 list_fits t node h k = rw (lt-ltb node (length t / 24) h) (go k)
   where
-    go : ((node_of node (drop (24 * node) t)).kind ≡ kind_def) ⊎ ((node_of node (drop (24 * node) t)).kind ≡ kind_lambda)
+    go : ((node_of node (drop (24 * node) t)).kind ≡ kind_def)
+        ⊎ ((node_of node (drop (24 * node) t)).kind ≡ kind_lambda)
         → wants Parameters (node_of node (drop (24 * node) t)).kind ≡ true
     go (inl e) = rw e refl
     go (inr e) = rw e refl
@@ -66,71 +67,72 @@ module _ (t names : List ℕ) (node : ℕ) (ms : List ℕ) (g : Given t names no
       long_refused t names node (length ms) g.sound fits g.room long
       ∙ ap (refused_at too_many_parameters) (record_kept (accepted_clean t names g.sound) node g.within)
 
-  module _ (few : length (list_of t names node) ≤ most_parameters) (c : Cut) (cut : CutOf (list_of t names node) c) where
-    pub cut_answer : params_of t names node (length ms) ≡ accepted (cut_values c)
-    cut_answer =
-        passed_accepted t names node (length ms) g.sound fits g.room few
-        (ap unpack (sym cut.joins) ∙ cut_accepted c cut.good) ∙ ap accepted (cut_values_lem c)
+  module _ (few : length (list_of t names node) ≤ most_parameters) (c : Cut) (cut : CutOf (list_of t names node) c)
+    where
+      pub cut_answer : params_of t names node (length ms) ≡ accepted (cut_values c)
+      cut_answer =
+          passed_accepted t names node (length ms) g.sound fits g.room few
+          (ap unpack (sym cut.joins) ∙ cut_accepted c cut.good) ∙ ap accepted (cut_values_lem c)
 
-    -- the buffer at exit: the cut's modes, then what was there
-    buffer : modes_after t names node ms ≡ part_modes (parts_of c) ++ drop (length (part_modes (parts_of c))) ms
-    unfolding modes_after
-    buffer =
-        let these : modes (list_of t names node) ≡ part_modes (parts_of c) = ap modes (sym cut.joins)
-        ∙ cut_modes c cut.good.slash in
-        rw (cut_answer, these) refl
+      -- the buffer at exit: the cut's modes, then what was there
+      buffer : modes_after t names node ms ≡ part_modes (parts_of c) ++ drop (length (part_modes (parts_of c))) ms
+      unfolding modes_after
+      buffer =
+          let these : modes (list_of t names node) ≡ part_modes (parts_of c) = ap modes (sym cut.joins)
+          ∙ cut_modes c cut.good.slash in
+          rw (cut_answer, these) refl
 
-    short : length (part_modes (parts_of c)) ≤ length ms
-    short = omega (
-      arith,
-      modes_short (list_of t names node),
-      ap length (ap modes (sym cut.joins) ∙ cut_modes c cut.good.slash),
-      g.room,
-    )
+      short : length (part_modes (parts_of c)) ≤ length ms
+      short = omega (
+        arith,
+        modes_short (list_of t names node),
+        ap length (ap modes (sym cut.joins) ∙ cut_modes c cut.good.slash),
+        g.room,
+      )
 
-    pub modes_there : ByRange (cut_ranges c) (modes_after t names node ms)
-    modes_there = rw buffer (modes_by_range (parts_of c) (drop (length (part_modes (parts_of c))) ms))
+      pub modes_there : ByRange (cut_ranges c) (modes_after t names node ms)
+      modes_there = rw buffer (modes_by_range (parts_of c) (drop (length (part_modes (parts_of c))) ms))
 
-    pub others_stay : (i : ℕ) → cut_flat c ≤ i → get_or (modes_after t names node ms) i 0 ≡ get_or ms i 0
-    others_stay i h =
-        let m = length (part_modes (parts_of c)) in
-        let at : i ≡ m + (i - m) = omega (arith, modes_length (parts_of c)) in
-        rw buffer
-        (ap (λ (x : ℕ). get_or (part_modes (parts_of c) ++ drop m ms) x 0) at
-        ∙ get_or-append-add (part_modes (parts_of c)) (drop m ms) (i - m) 0
-        ∙ get_or-drop m ms (i - m) 0
-        ∙ ap (λ (x : ℕ). get_or ms x 0) (sym at))
+      pub others_stay : (i : ℕ) → cut_flat c ≤ i → get_or (modes_after t names node ms) i 0 ≡ get_or ms i 0
+      others_stay i h =
+          let m = length (part_modes (parts_of c)) in
+          let at : i ≡ m + (i - m) = omega (arith, modes_length (parts_of c)) in
+          rw buffer
+          (ap (λ (x : ℕ). get_or (part_modes (parts_of c) ++ drop m ms) x 0) at
+          ∙ get_or-append-add (part_modes (parts_of c)) (drop m ms) (i - m) 0
+          ∙ get_or-drop m ms (i - m) 0
+          ∙ ap (λ (x : ℕ). get_or ms x 0) (sym at))
 
-    pub as_long : length (modes_after t names node ms) ≡ length ms
-    as_long =
-        let m = part_modes (parts_of c) in
-        let whole : length (m ++ drop (length m) ms) ≡ length m
-        + (length ms - length m) = length-append m (drop (length m) ms)
-        ∙ ap (λ (x : ℕ). length m + x) (length-drop (length m) ms) in
-        rw buffer (whole ∙ omega (arith, short))
+      pub as_long : length (modes_after t names node ms) ≡ length ms
+      as_long =
+          let m = part_modes (parts_of c) in
+          let whole : length (m ++ drop (length m) ms) ≡ length m
+          + (length ms - length m) = length-append m (drop (length m) ms)
+          ∙ ap (λ (x : ℕ). length m + x) (length-drop (length m) ms) in
+          rw buffer (whole ∙ omega (arith, short))
 
-    -- the answer's own ranges
-    pub answer_is : (r : Unpacked) → unpacked r ≡ params_of t names node (length ms)
-        → (a : Counted) × (r ≡ Accepted a) × RangesAre a (cut_ranges c)
-    answer_is (Refused w) e = never_accepted w (e ∙ cut_answer)
-    answer_is (Accepted a) e =
-        let same : values_of a ≡ cut_values c = values_same (e ∙ cut_answer) in
-        let value : (i : ℕ) → get_or (values_of a) i 0
-        ≡ get_or (cut_values c) i 0 = λ i. ap (λ (vs : List ℕ). get_or vs i 0) same in (
-          a,
-          refl,
-          record {
-            pos_only_is = range_path (value 0) (value 1);
-            pos_or_named_is = range_path (value 2) (value 3);
-            args_is = range_path (value 4) (value 5);
-            named_only_is = range_path (value 6) (value 7);
-            kwargs_is = range_path (value 8) (value 9);
-            flat_is = value 10;
-          },
-        )
-      where
-        values_same : {vs ws : List ℕ} → accepted vs ≡ accepted ws → vs ≡ ws
-        values_same e = cc
+      -- the answer's own ranges
+      pub answer_is : (r : Unpacked) → unpacked r ≡ params_of t names node (length ms)
+          → (a : Counted) × (r ≡ Accepted a) × RangesAre a (cut_ranges c)
+      answer_is (Refused w) e = never_accepted w (e ∙ cut_answer)
+      answer_is (Accepted a) e =
+          let same : values_of a ≡ cut_values c = values_same (e ∙ cut_answer) in
+          let value : (i : ℕ) → get_or (values_of a) i 0
+          ≡ get_or (cut_values c) i 0 = λ i. ap (λ (vs : List ℕ). get_or vs i 0) same in (
+            a,
+            refl,
+            record {
+              pos_only_is = range_path (value 0) (value 1);
+              pos_or_named_is = range_path (value 2) (value 3);
+              args_is = range_path (value 4) (value 5);
+              named_only_is = range_path (value 6) (value 7);
+              kwargs_is = range_path (value 8) (value 9);
+              flat_is = value 10;
+            },
+          )
+        where
+          values_same : {vs ws : List ℕ} → accepted vs ≡ accepted ws → vs ≡ ws
+          values_same e = cc
 
-        range_path : {r s : Range} → r.from ≡ s.from → r.upto ≡ s.upto → r ≡ s
-        range_path p q = λ i. record { from = p i; upto = q i }
+          range_path : {r s : Range} → r.from ≡ s.from → r.upto ≡ s.upto → r ≡ s
+          range_path p q = λ i. record { from = p i; upto = q i }

@@ -1,8 +1,9 @@
--- The five ranges of a cut. They are the values that the answer of `unpack` has (`cut_values_lem`). The flat list is the
--- five parts one after another, marks left out (`flat_join`; inductions on the parts), so each range cuts its own part
--- out of it (`cut_parts`). Each range begins where the one before it ends (`ranges_follow`), so every index below the
--- flat count is in exactly one of them (`ranges_cover`: count the ranges that hold it, from the left). The modes are
--- runs of equal numbers in the same order, so each index has the mode of its range (`modes_by_range`). Assumes nothing.
+-- The five ranges of a cut. They are the values that the answer of `unpack` has (`cut_values_lem`). The flat list is
+-- the five parts one after another, marks left out (`flat_join`; inductions on the parts), so each range cuts its own
+-- part out of it (`cut_parts`). Each range begins where the one before it ends (`ranges_follow`), so every index
+-- below the flat count is in exactly one of them (`ranges_cover`: count the ranges that hold it, from the left). The
+-- modes are runs of equal numbers in the same order, so each index has the mode of its range (`modes_by_range`).
+-- Assumes nothing.
 use mathlib.Core.Path.{◌≡◌, refl, ap, ap₂, ◌∙◌}
 use mathlib.Core.Bool.{Bool, true, false, ◌&&◌}
 use mathlib.Core.List.{List, [], ◌∷◌, ◌++◌, append_assoc, append-nil}
@@ -236,7 +237,8 @@ module _ (p : Parts) (rest : List ℕ) where
   modes_by_range = let ms : List ℕ = part_modes p ++ rest in record {
     pos_only = λ i h g. mid_in [] a 1 (twos ++ (fours ++ (threes ++ (fives ++ rest)))) ms 0 (simp append_assoc) refl i h
         (omega arith);
-    pos_or_named = mid_in ones b 2 (fours ++ (threes ++ (fives ++ rest))) ms a (simp append_assoc) (length-replicate a 1);
+    pos_or_named = mid_in ones b 2 (fours ++ (threes ++ (fives ++ rest))) ms a (simp append_assoc)
+        (length-replicate a 1);
     args = mid_in (ones ++ twos) s 4 (threes ++ (fives ++ rest)) ms (a + b) (simp append_assoc)
         (simp (length-append, length-replicate));
     named_only = mid_in (ones ++ (twos ++ fours)) n 3 (fives ++ rest) ms (a + b + s) (simp append_assoc)

@@ -11,7 +11,7 @@ use Rattle.forest.specs.declared.Found.{Found}
 use Rattle.forest.specs.declared.Found.TheVariants.{At, Nothing}
 use Rattle.deflist.specs.Written.{Param, kind_in}
 use Rattle.deflist.specs.Unpack.{written_at, repeats, rule, firstly, check, next_state, next_optional, next_star, count}
-use Rattle.deflist.specs.Unpack.{Outcome, advance, finish, accepted, refused, run}
+use Rattle.deflist.specs.Unpack.{Outcome, advance, finish, accepted, run}
 use Rattle.deflist.specs.declared.State.{State}
 use Rattle.deflist.specs.declared.Check.{Check}
 use Rattle.deflist.specs.declared.Check.TheVariants.{Fine, Broken, Repeated}

@@ -156,7 +156,14 @@ ranges_of p =
     let s = b + length p.args in
     let n = s + length p.named_only in
     let k = n + length p.kwargs in
-    record { pos_only = range 0 a; pos_or_named = range a b; args = range b s; named_only = range s n; kwargs = range n k }
+    record {
+      pos_only = range 0 a;
+      pos_or_named = range a b;
+      args = range b s;
+      named_only = range s n;
+      kwargs =
+          range n k;
+    }
 
 abbrev pub cut_ranges : Cut → Ranges
 cut_ranges c = ranges_of (parts_of c)

@@ -5,13 +5,15 @@
 // are read.
 // Copyright 2018 The Starlark in Rust Authors. Copyright (c) Facebook, Inc. and its affiliates.
 // Licensed under Apache-2.0.
+#![tactic(auto)]
+
 ghost use Rattle.std.specs.Prelude.{◌≡◌, length};
 ghost use Rattle.dialect.specs.Rows.{row_named, types_of, permits_types, record_of, dialect_named};
 ghost use Rattle.dialect.specs.Bytes.{valid_bytes, from_bytes};
 ghost use Rattle.dialect.specs.Editions.{edition_of, stated_bytes, edition_held};
 
 // How type annotations are handled.
-#[derive(Drop)]
+#[derive(Clone, Copy)]
 pub enum DialectTypes {
     Disable,
     ParseOnly,
@@ -19,7 +21,7 @@ pub enum DialectTypes {
 }
 
 // The language features that are permitted.
-#[derive(Drop)]
+#[derive(Clone, Copy)]
 pub struct Dialect {
     pub enable_def: bool,
     pub enable_lambda: bool,
@@ -33,7 +35,7 @@ pub struct Dialect {
 }
 
 // The dialects that have a name.
-#[derive(Drop)]
+#[derive(Clone, Copy)]
 pub enum Name {
     Standard,
     Extended,
@@ -41,28 +43,28 @@ pub enum Name {
 }
 
 // The result of reading dialect bytes: a dialect, or Invalid.
-#[derive(Drop)]
+#[derive(Clone, Copy)]
 pub enum Decoded {
     Valid(Dialect),
     Invalid,
 }
 
 // The editions of the type rules. The second allows a path that ends in `type`; the first bans it.
-#[derive(Drop)]
+#[derive(Clone, Copy)]
 pub enum Edition {
     One,
     Two,
 }
 
 // The result of reading an edition's number: the edition, or Unknown for a number other than 1 and 2.
-#[derive(Drop)]
+#[derive(Clone, Copy)]
 pub enum EditionRead {
     Known(Edition),
     Unknown,
 }
 
 // What a file states of its edition: a number, which may be no edition, or nothing.
-#[derive(Drop)]
+#[derive(Clone, Copy)]
 pub enum Stated {
     Number(u32),
     Nothing,

@@ -23,6 +23,10 @@ use Rattle.errors.specs.declared.Err.{Err}
 use Rattle.errors.specs.declared.Listing.{Listing}
 use Rattle.errors.specs.declared.Listing.TheVariants.{Module, Own, Audit, Numbers}
 
+-- LAW: before the first error every word is free
+pub free_all : (l : Listing) (len : ℕ) {count : ℕ} → count ≡ 0 → 0 ≡ min (width l * count) len
+free_all l len h = rw h (omega arith)
+
 -- LAW: of two lists of errors, a form keeps what it keeps of each; it never keeps more errors than there are
 without_append : (es fs : List Err) → without_lists (es ++ fs) ≡ without_lists es ++ without_lists fs
 unfolding without_lists

@@ -1,6 +1,8 @@
 // Stores errors in a lent list of words. A check is lent only the words that are still free; it counts all its errors,
 // and stores the first that fit whole. The form of the list says how many words an error has, and which errors are left
 // out.
+#![tactic(auto)]
+
 ghost use Rattle.std.specs.Prelude.{◌≡◌, ◌*◌, min};
 ghost use Rattle.forest.specs.Forest.{node_of};
 ghost use Rattle.errors.specs.Errors.{err_at, only, unless, is_list_error, width, Stores};
@@ -15,7 +17,7 @@ pub const WIDTH: usize = 4;
 pub const WIDTH_WITH_NODE: usize = WIDTH + 1;
 
 // An error: its number, the index of its record, and its place in the script.
-#[derive(Drop)]
+#[derive(Clone, Copy)]
 pub struct Err {
     pub number: u32,
     pub node: u32,
@@ -23,7 +25,7 @@ pub struct Err {
 }
 
 // The form of a list of errors.
-#[derive(Drop)]
+#[derive(Clone, Copy)]
 pub enum Listing {
     Module, // of the module pass: WIDTH words an error
     Own, // of the module pass in the audit: with the node; errors of parameter lists, 10 to 19, are left out
@@ -136,10 +138,14 @@ pub fn push_unless(
     push_at(listing, number, t, at, errors)
 }
 
-// The index of the first free word after count errors in a list of len words; len if there is none.
+// The index of the first free word after count errors in a list of len words; len if there is none. Walks ask for it at
+// every node, mostly before the first error.
 pub fn free(listing: Listing, len: usize, count: usize) -> usize
     ensures { result ≡ min (width listing * count) len }
 {
+    if count == 0 {
+        return 0usize;
+    }
     match listing {
         Listing::Module => free_short(len, count),
         Listing::Own => free_long(len, count),

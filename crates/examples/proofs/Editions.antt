@@ -26,21 +26,27 @@ use Rattle.examples.specs.Editions.{typed_path, type_name}
 
 -- the table passes 1 to 4
 sound : check_of typed_path type_name ≡ accepted []
-unfolding check_of length_sound first_unsound first_false record_sound root_sound sound_at sound_node context_of files_of top_of
-    ends_by file_sound fields_sound name_sound span_sound source_sound whole_trees classes permitted wanted permits kids_sound
+unfolding check_of length_sound first_unsound first_false record_sound root_sound sound_at sound_node context_of
+    files_of top_of
+    ends_by file_sound fields_sound name_sound span_sound source_sound whole_trees classes permitted wanted permits
+    kids_sound
     kind_in kind_of forest_in forest kids_of rest_of size_of field count same first_deep class_weight weight
 sound = refl
 
 -- EXAMPLE: the first edition refuses with 44, at node 3, from 3 to 4 in source file 1
 pub first_bans : type_shape_of typed_path type_name [] 1 2 2 ≡ refused dot_type_ban (3 ∷ 3 ∷ 4 ∷ 1 ∷ [])
-unfolding type_shape_of rules_of edition_of given_of from_bytes record_of type_at node_fits wants kind_in kind_of stretch_of size_of
-    field forest_in forest kids_of rest_of name_of same dialect_check_type «unpack» form_of at_node unpack_path object_path
+unfolding type_shape_of rules_of edition_of given_of from_bytes record_of type_at node_fits wants kind_in kind_of
+    stretch_of size_of
+    field forest_in forest kids_of rest_of name_of same dialect_check_type «unpack» form_of at_node unpack_path
+    object_path
 first_bans = rw sound refl
 
 -- EXAMPLE: the second edition accepts it
 pub second_reads : type_shape_of typed_path type_name [] 2 2 2 ≡ accepted []
-unfolding type_shape_of rules_of edition_of given_of from_bytes record_of type_at node_fits wants kind_in kind_of stretch_of size_of
-    field forest_in forest kids_of rest_of name_of same dialect_check_type «unpack» form_of at_node unpack_path object_path
+unfolding type_shape_of rules_of edition_of given_of from_bytes record_of type_at node_fits wants kind_in kind_of
+    stretch_of size_of
+    field forest_in forest kids_of rest_of name_of same dialect_check_type «unpack» form_of at_node unpack_path
+    object_path
 second_reads = rw sound refl
 
 -- EXAMPLE: 0 and 3 are not editions

@@ -10,18 +10,19 @@ use Rattle.forest.specs.Names.{name_of, same}
 use Rattle.deflist.specs.Unpack.{has_name, first_same, repeats, advance, step, finish, run, slash_from, start, unpack}
 use Rattle.deflist.specs.Limited.{limited}
 use Rattle.parameters.specs.Indices.{counted_of}
-use Rattle.arguments.specs.Call.{repeats as callRepeats, check, advance as callAdvance, run as callRun}
-use Rattle.arguments.specs.Call.{unpack as callUnpack}
+use Rattle.arguments.specs.Call.{repeats as call_repeats, check, advance as call_advance, run as call_run}
+use Rattle.arguments.specs.Call.{unpack as call_unpack}
 use Rattle.types.specs.Forms.{form_of}
 use Rattle.types.specs.Paths.{object_path, unpack_path}
-use Rattle.types.specs.Types.{index_base, index2_base, list_length, at_node, «unpack» as typeUnpack}
+use Rattle.types.specs.Types.{index_base, index2_base, list_length, at_node, «unpack» as type_unpack}
 use Rattle.examples.specs.Table.{Row, answer, table, second_edition}
 
 -- THEOREM: every row of the table is what the definitions answer, whatever the record of the def
 pub examples : (def : Node) → map (λ (r : Row). answer def r.asked) table ≡ map (λ (r : Row). r.shown) table
-unfolding name_of same has_name first_same repeats advance step finish run slash_from start unpack counted_of callRepeats
-    check callAdvance callRun callUnpack form_of object_path unpack_path index_base index2_base list_length at_node
-    typeUnpack limited
+unfolding name_of same has_name first_same repeats advance step finish run slash_from start unpack counted_of
+    call_repeats
+    check call_advance call_run call_unpack form_of object_path unpack_path index_base index2_base list_length at_node
+    type_unpack limited
 examples def = refl
 
 -- THEOREM: the number of rows
@@ -31,5 +32,5 @@ how_many_lem = refl
 -- THEOREM: the rows of the second edition
 pub second_edition_lem : (def : Node)
     → map (λ (r : Row). answer def r.asked) second_edition ≡ map (λ (r : Row). r.shown) second_edition
-unfolding name_of same form_of object_path unpack_path index_base index2_base list_length at_node typeUnpack
+unfolding name_of same form_of object_path unpack_path index_base index2_base list_length at_node type_unpack
 second_edition_lem def = refl

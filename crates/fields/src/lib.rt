@@ -1,4 +1,6 @@
 // Reads little-endian fields from bytes. Bytes past the end read as zero, so every function takes bytes of any length.
+#![tactic(auto)]
+
 ghost use Rattle.std.specs.Prelude.{◌≡◌, get_or};
 ghost use Rattle.fields.specs.Field.{field};
 

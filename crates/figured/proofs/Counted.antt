@@ -100,9 +100,12 @@ file_report c s =
 -- the figures of `x = 1`: a file of four nodes, with no list, call or error
 example_figures : figures_of content ≡ 1 ∷ 4 ∷ replicate 30 0
 unfolding table_figures total mode_at accepted_at refused_at node_fits wants params_of on_node entry_check numbers_of
-    error_counts occurrences_from occurrences errors_of arm_of f expr_errors expr given_of from_bytes valid_bytes within check_of
-    length_sound field size_of kids_of rest_of forest_in forest count count_tree same kind_in kind_of name_sound span_sound
-    source_sound fields_sound whole_trees classes permitted wanted permits kids_sound sound_node sound_at root_sound file_sound
+    error_counts occurrences_from occurrences errors_of arm_of f expr_errors expr given_of from_bytes valid_bytes within
+    check_of
+    length_sound field size_of kids_of rest_of forest_in forest count count_tree same kind_in kind_of name_sound
+    span_sound
+    source_sound fields_sound whole_trees classes permitted wanted permits kids_sound sound_node sound_at root_sound
+    file_sound
     ends_by top_of files_of context_of record_sound first_false first_unsound class_weight weight first_deep deep_in
 example_figures = refl
 

@@ -106,14 +106,16 @@ module _ (room : ℕ → ℕ) (enough : (at : ℕ) → window_bytes ≤ room at)
       go (eqb (length left) 0) refl (λ n gs. steps_through k (at + n) gs (drop n left))
     where
       follows : (s : Stepped) (gs : List ℕ)
-          → ((n : ℕ) (hs : List ℕ) → through_in room k (at + n) hs (drop n left) ≡ report_in k (at + n) hs (drop n left))
+          → ((n : ℕ) (hs : List ℕ)
+          → through_in room k (at + n) hs (drop n left) ≡ report_in k (at + n) hs (drop n left))
           → after_step s at fs (λ n. through_in room k (at + n) gs (drop n left))
           ≡ after_step s at fs (λ n. report_in k (at + n) gs (drop n left))
       follows (Taken n) gs rest = rest n gs
       follows (Refused m) gs rest = refl
 
       go : (z : Bool) → eqb (length left) 0 ≡ z
-          → ((n : ℕ) (hs : List ℕ) → through_in room k (at + n) hs (drop n left) ≡ report_in k (at + n) hs (drop n left))
+          → ((n : ℕ) (hs : List ℕ)
+          → through_in room k (at + n) hs (drop n left) ≡ report_in k (at + n) hs (drop n left))
           → if' z (λ _. whole fs) (λ _. after_step (step_of (take (room at) left) fs) at fs (λ n.
           through_in room k (at + n) (figures_after (take (room at) left) fs) (drop n left)))
           ≡ if' z (λ _. whole fs) (λ _. after_step (step_of left fs) at fs (λ n.

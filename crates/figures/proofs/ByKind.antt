@@ -164,7 +164,8 @@ module _ {t names : List ℕ} {i : ℕ} (n : NodeIn t names i) where
     fits_by w = rw (lt-ltb i (length t / 24) n.within, k_is, tail_part (24 * i) t) refl
 
     module _ (start : List ℕ) {ys s : List ℕ} (s-is : s ≡ stretch_of t i) where
-      pub kind_list_lem : (k ≡ kind_def) → ys ≡ added start (list_figures (told (limited (node_of i s) (written names i s))))
+      pub kind_list_lem : (k ≡ kind_def)
+          → ys ≡ added start (list_figures (told (limited (node_of i s) (written names i s))))
           → ys ≡ added start (node_figures t names i)
       unfolding wants
       kind_list_lem e ys-is =
@@ -181,7 +182,8 @@ module _ {t names : List ℕ} {i : ℕ} (n : NodeIn t names i) where
           let no_call : node_fits t i Call ≡ false = fits_by Call ∙ rw e refl in
           ys-is ∙ rw s-is (node_list yes-list no_call start)
 
-      pub kind_call_lem : (k ≡ kind_call) → ys ≡ added start (call_figures (call_answer names (tree_of i (headed_of i s))))
+      pub kind_call_lem : (k ≡ kind_call)
+          → ys ≡ added start (call_figures (call_answer names (tree_of i (headed_of i s))))
           → ys ≡ added start (node_figures t names i)
       unfolding wants
       kind_call_lem e ys-is =

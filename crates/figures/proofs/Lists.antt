@@ -144,7 +144,8 @@ pub ranges_are : (c : Counts) {a k : ℕ} → a ≡ places c.args → k ≡ plac
     ∷ (c.flat.0 - (c.num_positional.0 + a + k)) ∷ a ∷ k ∷ [] ≡ range_counts c
 ranges_are c a-is k_is = rw (a-is, k_is) refl
 
-pub counts_accepted : {j : Judged} {c : Counts} → j ≡ Accepted c → {l : List ℕ} → l ≡ range_counts c → l ≡ judged_counts j
+pub counts_accepted : {j : Judged} {c : Counts} → j ≡ Accepted c → {l : List ℕ} → l ≡ range_counts c
+    → l ≡ judged_counts j
 counts_accepted e l-is = rw e l-is
 
 pub counts_refused : {j : Judged} {f : Fault} → j ≡ Refused f → 0 ∷ 0 ∷ 0 ∷ 0 ∷ 0 ∷ [] ≡ judged_counts j

@@ -73,7 +73,8 @@ module _ (w : List ℕ) where
     header_window,
     judge_front 0 (used_of (header_at w)) (header_at w).taken w taken_least,
     run_front (header_at w).names 512 (header_at w).taken w names_held 1,
-    run_front (24 * (header_at w).nodes) (512 * (header_at w).first) (header_at w).taken w nodes_held (header_at w).first,
+    run_front (24 * (header_at w).nodes) (512 * (header_at w).first) (header_at w).taken w nodes_held
+        (header_at w).first,
   ) refl
 
   -- LAW: the check of a window is the reader's, on these bytes

@@ -73,7 +73,8 @@ error_counts ns = occurrences_from 10 slash_first ns ++ occurrences_from 12 star
 unfoldable pub table_figures : List ℕ → List ℕ → List ℕ → List ℕ
 table_figures t names dialect =
     1 ∷ nodes_of t ∷ over t (list_at t)
-    ∷ over t (mode_at mode_pos_only t names) ∷ over t (mode_at mode_pos_or_name t names) ∷ over t (mode_at mode_name_only t names)
+    ∷ over t (mode_at mode_pos_only t names) ∷ over t (mode_at mode_pos_or_name t names)
+    ∷ over t (mode_at mode_name_only t names)
     ∷ over t (mode_at mode_args t names) ∷ over t (mode_at mode_kwargs t names)
     ∷ over t (accepted_at t names) ∷ over t (refused_at t names)
     ∷ error_counts (numbers_of (errors_of t names dialect))

@@ -62,7 +62,8 @@ call_figures a = replicate 8 0 ++ one (passes a) ∷ one (is_refused a) ∷ []
 
 -- what one node adds, and what the nodes 0 to n - 1 add together
 abbrev pub modes_at : (ℕ → ℕ) → List ℕ → List ℕ
-modes_at count rest = count mode_pos_only ∷ count mode_pos_or_name ∷ count mode_name_only ∷ count mode_args ∷ count mode_kwargs
+modes_at count rest = count mode_pos_only ∷ count mode_pos_or_name ∷ count mode_name_only ∷ count mode_args
+    ∷ count mode_kwargs
     ∷ rest
 
 unfoldable pub node_figures : List ℕ → List ℕ → ℕ → List ℕ

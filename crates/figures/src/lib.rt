@@ -1,5 +1,7 @@
 // Figures over table files, one after another: what they hold and how the jobs judge it, in 32 counters of 64 bits
 // (docs/FORMAT.md, Figures). A step adds the file at the front of a window; a report is the steps over a whole input.
+#![tactic(auto)]
+
 mod nodes;
 mod sums;
 mod told;
@@ -41,21 +43,21 @@ pub const ERRORS: usize = 10;
 pub const MOST_FILES: u64 = 4294967295;
 
 // The answer of a step: the number of bytes that the file at the front takes, or the number with which it is refused.
-#[derive(Drop)]
+#[derive(Clone, Copy)]
 pub enum Stepped {
     Taken(usize),
     Refused(u32),
 }
 
 // The end of a report: the end of the input, or a refused file, with its number and the position of its first byte.
-#[derive(Drop)]
+#[derive(Clone, Copy)]
 pub enum Ending {
     Whole,
     Refused { number: u32, at: usize },
 }
 
 // A report: the counters, without those of a refused file, and how it ends.
-#[derive(Drop)]
+#[derive(Clone, Copy)]
 pub struct Reported {
     pub figures: [u64; FIGURES],
     pub ending: Ending,

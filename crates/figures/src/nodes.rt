@@ -19,7 +19,7 @@ use forest::RECORD;
 use soundness::kinds;
 
 // The number of flat parameters of each mode in a list.
-#[derive(Drop)]
+#[derive(Clone, Copy)]
 pub struct Modes {
     pub pos_only: u64,
     pub pos_or_named: u64,
@@ -100,7 +100,8 @@ fn modes_of(judged: Judged) -> Modes
 // The lengths of the five ranges of an accepted list.
 fn lengths(c: Counts) -> Modes
     requires { Ranged c }
-    ensures { result.pos_only ∷ result.pos_or_named ∷ result.named_only ∷ result.args ∷ result.kwargs ∷ [] ≡ range_counts c }
+    ensures { result.pos_only ∷ result.pos_or_named ∷ result.named_only ∷ result.args ∷ result.kwargs ∷ []
+        ≡ range_counts c }
 {
     let only = c.num_positional_only;
     let positional = c.num_positional;

@@ -7,7 +7,7 @@ use mathlib.Core.Path.{◌≡◌, refl, sym, ap, ◌∙◌}
 use mathlib.Core.Bool.{Bool, true, false}
 use mathlib.Core.Logic.{⊎_elim}
 use mathlib.Core.List.{List, []}
-use Prim.Native.Nat.{ℕ, ◌+◌, ◌*◌, ◌-◌, ◌<◌, ◌≤◌}
+use Prim.Native.Nat.{ℕ, ◌+◌, ◌*◌, ◌<◌, ◌≤◌}
 use native.Mathlib.Omega.{arith}
 use lib.ListN.{length, take, drop, length-take}
 use lib.Seq.{take_all}
@@ -89,7 +89,8 @@ module _ (m : ℕ) (bs : List ℕ) (enough : 512 * most_blocks < m) (longer : m 
 
   -- the whole check of some bytes with the same block 0
   whole : List ℕ → Bool → Answer
-  whole xs fit = and_then (judge 0 (used_of (header_at bs)) xs) (λ _. and_then (demand fit block_counts) (λ _. later xs))
+  whole xs fit = and_then (judge 0 (used_of (header_at bs)) xs)
+      (λ _. and_then (demand fit block_counts) (λ _. later xs))
 
   whole_is : (xs : List ℕ) → header_at xs ≡ header_at bs
       → read_check xs ≡ whole xs (counts_fit (header_at bs).nodes (header_at bs).names)

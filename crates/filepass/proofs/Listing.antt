@@ -187,7 +187,8 @@ many_room file good = (
 
 -- `fill`: a and b are the arrays at its entry, w and wn those at its exit
 module _ (file a b : List ℕ)
-    (room : (file_check file ≡ accepted []) × (24 * (header_at file).nodes ≤ length a) × ((header_at file).names ≤ length b))
+    (room : (file_check file ≡ accepted []) × (24 * (header_at file).nodes ≤ length a)
+    × ((header_at file).names ≤ length b))
     {h : Heading} (h-is : h ≡ header_at file) where
   pub fill_fits : 24 * h.nodes < 2 ^ 64
   fill_fits = omega (arith, file_few file room.0 h-is)

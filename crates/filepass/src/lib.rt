@@ -1,5 +1,7 @@
 // The module job on a table file: the file is judged and its content copied, and the job runs on the content, with the
 // errors in the caller's list. The job reads no types, so the file's edition has no effect, unless it is bad.
+#![tactic(auto)]
+
 ghost use Rattle.std.specs.Prelude.{◌≡◌, [], ◌*◌, ◌≤◌, length, take};
 ghost use Rattle.forest.specs.Forest.{record_bytes};
 ghost use Rattle.table.specs.Numbers.{bad_dialect};
@@ -34,7 +36,7 @@ const FEW_NAMES: usize = 1008;
 const FEW_BYTES: usize = RECORD * FEW_NODES;
 
 // The answer for a file: its number of nodes and of errors, or why it is refused.
-#[derive(Drop)]
+#[derive(Clone, Copy)]
 pub enum Passed {
     Listed { nodes: u32, total: u32 },
     Refused(Refusal),

@@ -1,34 +1,35 @@
 // Reads a file with each of its bytes changed to eight other values, and cut at every length.
 use crate::{say, say_number};
+use std::io;
 use table::number;
 use tablefile::Verdict;
 
 // Tries the file at the front of a buffer in all these ways.
-pub(crate) fn all(space: &mut [u8], n: usize) {
+pub(crate) fn all(rt: &impl Print, space: &mut [u8], n: usize) -> io::Result<()> {
     if space.len() <= n {
-        return;
+        return Ok(());
     }
-    once(b"whole", &space[0..n]);
-    change_all(&mut space[0..n]);
-    cut_all(front(space, n));
-    once(b"a byte more", front(space, n + 1));
+    once(rt, b"whole", &space[0..n])?;
+    change_all(rt, &mut space[0..n])?;
+    cut_all(rt, front(space, n))?;
+    once(rt, b"a byte more", front(space, n + 1))
 }
 
-fn once(what: &[u8], file: &[u8]) {
+fn once(rt: &impl Print, what: &[u8], file: &[u8]) -> io::Result<()> {
     let mut counts = [0u32; 256];
     count(file, &mut counts);
-    say_counts(what, &counts);
+    say_counts(rt, what, &counts)
 }
 
 // Changes every byte, from the last to the first.
-fn change_all(file: &mut [u8]) {
+fn change_all(rt: &impl Print, file: &mut [u8]) -> io::Result<()> {
     let mut counts = [0u32; 256];
     let mut left = file.len();
     while 0 < left {
         left -= 1;
         change(file, left, &mut counts);
     }
-    say_counts(b"a byte changed", &counts);
+    say_counts(rt, b"a byte changed", &counts)
 }
 
 // Changes one byte to eight other values: a power of two is added, and subtracted again.
@@ -49,14 +50,14 @@ fn add(file: &mut [u8], at: usize, step: u8) {
 }
 
 // Cuts the file at every shorter length.
-fn cut_all(file: &[u8]) {
+fn cut_all(rt: &impl Print, file: &[u8]) -> io::Result<()> {
     let mut counts = [0u32; 256];
     let mut left = file.len();
     while 0 < left {
         left -= 1;
         count(front(file, left), &mut counts);
     }
-    say_counts(b"cut", &counts);
+    say_counts(rt, b"cut", &counts)
 }
 
 // The first `len` bytes, or all if there are fewer.
@@ -86,30 +87,30 @@ fn raise(counts: &mut [u32], i: usize) {
 }
 
 // Prints a line for each answer that was given, with how often.
-fn say_counts(what: &[u8], counts: &[u32; 256]) {
-    say_from(what, counts);
+fn say_counts(rt: &impl Print, what: &[u8], counts: &[u32; 256]) -> io::Result<()> {
+    say_from(rt, what, counts)
 }
 
-fn say_from(what: &[u8], counts: &[u32]) {
+fn say_from(rt: &impl Print, what: &[u8], counts: &[u32]) -> io::Result<()> {
     let mut i = 0;
     while i < counts.len() {
-        say_count(what, i, counts[i]);
+        say_count(rt, what, i, counts[i])?;
         i += 1;
     }
+    Ok(())
 }
 
-fn say_count(what: &[u8], answer: usize, times: u32) {
+fn say_count(rt: &impl Print, what: &[u8], answer: usize, times: u32) -> io::Result<()> {
     if times == 0 {
-        return;
+        return Ok(());
     }
-    say(what);
-    say(b": ");
-    say_number(times as u64);
+    say(rt, what)?;
+    say(rt, b": ")?;
+    say_number(rt, times as u64)?;
     if answer == 0 {
-        say(b" accepted\n");
-        return;
+        return say(rt, b" accepted\n");
     }
-    say(b" refused ");
-    say_number(answer as u64);
-    say(b"\n");
+    say(rt, b" refused ")?;
+    say_number(rt, answer as u64)?;
+    say(rt, b"\n")
 }

@@ -2,41 +2,44 @@
 // if it accepts, and whether every byte or word is still 9: no refusal may change a buffer.
 use crate::{say, say_number};
 use filepass::Passed;
+use std::io;
 use table::{MOST_BYTES, MOST_NAMES, number};
 use tablefile::Verdict;
 
-pub(crate) fn say_jobs(file: &[u8]) {
-    say_unpack(file);
-    say_read_into(file);
-    say_check_file(file);
+pub(crate) fn say_jobs(rt: &impl Print, file: &[u8]) -> io::Result<()> {
+    say_unpack(rt, file)?;
+    say_read_into(rt, file)?;
+    say_check_file(rt, file)
 }
 
-fn say_unpack(file: &[u8]) {
+fn say_unpack(rt: &impl Print, file: &[u8]) -> io::Result<()> {
     let mut table = [9u8; MOST_BYTES];
     let mut names = [9u8; MOST_NAMES];
     let answer = tablefile::unpack(file, &mut table, &mut names);
     say_job(
+        rt,
         b"; unpack ",
         of_verdict(answer),
         kept_table(&table) & kept_names(&names),
-    );
+    )
 }
 
-fn say_read_into(file: &[u8]) {
+fn say_read_into(rt: &impl Print, file: &[u8]) -> io::Result<()> {
     let mut table = [9u8; MOST_BYTES];
     let mut names = [9u8; MOST_NAMES];
     let answer = tablefile::read_into(file, &mut table, &mut names);
     say_job(
+        rt,
         b", read_into ",
         of_verdict(answer),
         kept(&table) & kept(&names),
-    );
+    )
 }
 
-fn say_check_file(file: &[u8]) {
+fn say_check_file(rt: &impl Print, file: &[u8]) -> io::Result<()> {
     let mut words = [9u32; filepass::ENOUGH_WORDS];
     let answer = filepass::check_file(file, &mut words);
-    say_job(b", check_file ", of_passed(answer), kept_words(&words));
+    say_job(rt, b", check_file ", of_passed(answer), kept_words(&words))
 }
 
 fn of_verdict(answer: Verdict) -> u32 {
@@ -53,13 +56,13 @@ fn of_passed(answer: Passed) -> u32 {
     }
 }
 
-fn say_job(what: &[u8], answer: u32, same: bool) {
-    say(what);
-    say_number(answer as u64);
+fn say_job(rt: &impl Print, what: &[u8], answer: u32, same: bool) -> io::Result<()> {
+    say(rt, what)?;
+    say_number(rt, answer as u64)?;
     if same {
-        say(b" kept");
+        say(rt, b" kept")
     } else {
-        say(b" changed");
+        say(rt, b" changed")
     }
 }
 

@@ -142,7 +142,8 @@ module _ (marks : List ℕ) (x : List ℕ) where
   long = length-set marks _ _
 
   -- the marks show y after x is noted, whatever the place of y
-  told_of_lem : (y : List ℕ) → (length marks ≡ 0 → ⊥) → (eqb (place_of (length marks) y) (place_of (length marks) x) ≡ true
+  told_of_lem : (y : List ℕ) → (length marks ≡ 0 → ⊥)
+      → (eqb (place_of (length marks) y) (place_of (length marks) x) ≡ true
       → tells (joined (get_or marks (place_of (length marks) x) 0) (mark_of x)) (mark_of y) ≡ true)
       → (eqb (place_of (length marks) y) (place_of (length marks) x) ≡ false
       → tells (get_or marks (place_of (length marks) y) 0) (mark_of y) ≡ true)
@@ -158,7 +159,8 @@ module _ (marks : List ℕ) (x : List ℕ) where
       go false e = rw (get_or-set_other marks (place_of (length marks) x) (place_of (length marks) y) _ 0
           (eqb-false _ _ e)) (q e)
 
-  may_or : (y : List ℕ) → ((length marks ≡ 0 → ⊥) → tells (get_or (noted marks x) (place_of (length marks) y) 0) (mark_of y)
+  may_or : (y : List ℕ)
+      → ((length marks ≡ 0 → ⊥) → tells (get_or (noted marks x) (place_of (length marks) y) 0) (mark_of y)
       ≡ true) → may_stand (noted marks x) y ≡ true
   unfolding may_stand
   may_or y f = rw long (go (eqb (length marks) 0) refl)

@@ -66,7 +66,8 @@ unfoldable pub forest_in : ℕ → ℕ → List ℕ → Forest
 forest_in zero i bs = none
 forest_in (suc k) i bs =
     if' (leb record_bytes (length bs)) (λ _.
-    node (node_of i bs) (forest_in k (i + 1) (kids_of bs)) then forest_in k (i + span_of bs / record_bytes) (rest_of bs)) (λ _.
+    node (node_of i bs) (forest_in k (i + 1) (kids_of bs)) then forest_in k (i + span_of bs / record_bytes)
+    (rest_of bs)) (λ _.
     none)
 
 -- the whole forest: a stretch has fewer records than bytes, so its length is fuel enough

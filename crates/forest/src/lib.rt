@@ -2,6 +2,8 @@
 // and what follows its subtree are stretches again.
 // Every function takes any bytes. Missing bytes of a record read as zero; a subtree takes at least one record and at
 // most the whole stretch.
+#![tactic(auto)]
+
 pub mod marks;
 pub mod names;
 
@@ -12,7 +14,7 @@ ghost use Rattle.forest.specs.Forest.{node_of, span_of};
 pub const RECORD: usize = 24;
 
 // The index of a record, or none.
-#[derive(Drop)]
+#[derive(Clone, Copy)]
 pub enum Found {
     At(usize),
     Nothing,

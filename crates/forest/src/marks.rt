@@ -1,7 +1,7 @@
 // Marks of names in an array that the caller lends. Each name has a place and leaves its mark there; a name whose place
 // does not show its mark is new and need not be searched for. With an empty array every name may have been seen.
 ghost use Rattle.std.specs.Prelude.{◌≡◌, ◌<◌};
-ghost use Rattle.forest.specs.Marks.{mixed, hash_of, joined as joinedOf, tells as tellsOf, noted, may_stand};
+ghost use Rattle.forest.specs.Marks.{mixed, hash_of, joined as joined_of, tells as tells_of, noted, may_stand};
 
 // A list of at least SHORT bytes of records gets SOME marks, one of at least LONG bytes MANY. No answer depends on it.
 pub const SHORT: usize = 240;
@@ -35,7 +35,7 @@ pub fn note(marks: &mut [u8], name: &[u8]) -> bool
 
 // The value of a place after one more mark.
 fn joined(old: u8, mark: u8) -> u8
-    ensures { result ≡ joinedOf old mark }
+    ensures { result ≡ joined_of old mark }
 {
     if (old == 0) | (old == mark) {
         return mark;
@@ -45,7 +45,7 @@ fn joined(old: u8, mark: u8) -> u8
 
 // Whether the value of a place shows a mark.
 fn tells(old: u8, mark: u8) -> bool
-    ensures { result ≡ tellsOf old mark }
+    ensures { result ≡ tells_of old mark }
 {
     (old == mark) | (old == SEVERAL)
 }

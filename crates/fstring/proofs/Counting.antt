@@ -174,23 +174,24 @@ module _ {ws ts : List ℕ} {room : ℕ} {left more : List ℕ} {spare : ℕ} (s
         + length (text_for (drop 2 left) (drop m more))) (sym n_is)
 
     -- the code cuts the text from 0 to n
-    module _ {b : Room} (c-is : b ≡ leaving (length (form_of (part_of (get_or left 0 0) (take (n - 0) more)))) spare) where
-      b_is : b ≡ leaving size spare
-      b_is = rw (sub-zero n) at c-is
+    module _ {b : Room} (c-is : b ≡ leaving (length (form_of (part_of (get_or left 0 0) (take (n - 0) more)))) spare)
+      where
+        b_is : b ≡ leaving size spare
+        b_is = rw (sub-zero n) at c-is
 
-      pub spend_stop : b ≡ Short → Short ≡ leaving (length (text_for ws ts)) room
-      spend_stop e = leaving_over size rest spare (leaving_not size spare (sym b_is ∙ e))
-          ∙ ap (λ (m : ℕ). leaving m spare) (sym long) ∙ s.same
+        pub spend_stop : b ≡ Short → Short ≡ leaving (length (text_for ws ts)) room
+        spend_stop e = leaving_over size rest spare (leaving_not size spare (sym b_is ∙ e))
+            ∙ ap (λ (m : ℕ). leaving m spare) (sym long) ∙ s.same
 
-      pub spend_on : {m : ℕ} → b ≡ Left m
-          → Spending ws ts room (take (length left - 2) (drop 2 left)) (take (length more - n) (drop n more)) m
-      spend_on {m} e =
-          let got = leaving_left size spare m (sym b_is ∙ e) in
-          record {
-            whole = rw (tail_part 2 left, tail_part n more, n_is) (rest_of left more s.whole h);
-            same = rw (tail_part 2 left, tail_part n more, got.1) (leaving_both size rest spare got.0
-                ∙ ap (λ (k : ℕ). leaving k spare) (sym long) ∙ s.same);
-          }
+        pub spend_on : {m : ℕ} → b ≡ Left m
+            → Spending ws ts room (take (length left - 2) (drop 2 left)) (take (length more - n) (drop n more)) m
+        spend_on {m} e =
+            let got = leaving_left size spare m (sym b_is ∙ e) in
+            record {
+              whole = rw (tail_part 2 left, tail_part n more, n_is) (rest_of left more s.whole h);
+              same = rw (tail_part 2 left, tail_part n more, got.1) (leaving_both size rest spare got.0
+                  ∙ ap (λ (k : ℕ). leaving k spare) (sym long) ∙ s.same);
+            }
 
   pub spend_end : length left < 2 → Left spare ≡ leaving (length (text_for ws ts)) room
   spend_end h = leaving_none spare

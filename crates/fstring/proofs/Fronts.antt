@@ -6,7 +6,7 @@
 use mathlib.Core.Path.{◌≡◌, refl, sym, ap, ◌∙◌}
 use mathlib.Core.Bool.{Bool, true, false}
 use mathlib.Core.List.{List, [], ◌∷◌, ◌++◌, append_assoc, append-nil}
-use Prim.Native.Nat.{ℕ, zero, suc, ◌+◌, ◌-◌, ◌<◌, ◌≤◌}
+use Prim.Native.Nat.{ℕ, zero, suc, ◌+◌, ◌<◌, ◌≤◌}
 use native.Mathlib.Omega.{arith}
 use lib.ListN.{length, get_or, take, drop, length-drop}
 use lib.Seq.{take-add, drop-drop, take-length}
@@ -84,7 +84,8 @@ once_escaped : (c : ℕ) → is_brace c ≡ false → escape c ≡ c ∷ []
 unfolding escape
 once_escaped c e = rw e refl
 
-first_of : (f : Form) (c : ℕ) (cs : List ℕ) → Seen f c (get_or cs 0 0) (get_or cs 1 0) (get_or cs 2 0) → is_stray f ≡ false
+first_of : (f : Form) (c : ℕ) (cs : List ℕ) → Seen f c (get_or cs 0 0) (get_or cs 1 0) (get_or cs 2 0)
+    → is_stray f ≡ false
     → First f c cs
 unfolding format_of form_of
 first_of (Plain x) c cs s calm = record {

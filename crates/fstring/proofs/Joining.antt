@@ -10,7 +10,7 @@ use mathlib.Core.List.{List, [], ◌∷◌, ◌++◌, append_assoc, append-nil}
 use Prim.Native.Nat.{ℕ, ◌+◌, ◌-◌, ◌<◌, ◌≤◌}
 use native.Mathlib.Omega.{arith}
 use lib.ListN.{length, take, drop, length-append, length-drop}
-use lib.Dec.{eqb, eqb-suc-zero}
+use lib.Dec.{eqb-suc-zero}
 use Rattle.fields.proofs.Basics.{clash}
 use Rattle.fields.proofs.Fields.{tail_part}
 use Rattle.fields.specs.Choice.{if'}

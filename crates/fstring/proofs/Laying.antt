@@ -155,7 +155,8 @@ module _ (kind at : ℕ) (bytes d : List ℕ) (h : at + length (form_of (part_of
     repr_fourth = omega (arith, repr_room e)
 
   pub repr_laid : kind ≡ 3 → (at + 4 ≡ at + length (form_of (part_of kind bytes)))
-      × (set (set (set (set d at 123) (at + 1) 33) (at + 2) 114) (at + 3) 125 ≡ over at (form_of (part_of kind bytes)) d)
+      × (set (set (set (set d at 123) (at + 1) 33) (at + 2) 114) (at + 3) 125
+      ≡ over at (form_of (part_of kind bytes)) d)
   unfolding form_of part_of
   repr_laid e =
       let two : at + 2 ≡ suc (suc at) = omega arith in

@@ -1,9 +1,9 @@
 -- The four theorems of request W-210, stated about the contracts of `write` and `read`: an answer r with its meaning,
--- and the buffers at exit. The theorems are proved elsewhere about the definitions `write_of` and `read_of` (RoundTrips,
--- Theorems, StrayPlaces). An answer that meets its contract has the meaning that they give, and no two answers have the
--- same meaning (`written_injective`, `got_injective`), so the answer itself is known. Bytes laid over the front of a
--- buffer are followed by what was behind them (`front_of`). Theorem 1 is `write_then_read`, theorem 2
--- `read_then_write`, theorem 3 `stray_stands`, `stray_found`, `format_not_stray`, `not_stray_format` and
+-- and the buffers at exit. The theorems are proved elsewhere about the definitions `write_of` and `read_of`
+-- (RoundTrips, Theorems, StrayPlaces). An answer that meets its contract has the meaning that they give, and no two
+-- answers have the same meaning (`written_injective`, `got_injective`), so the answer itself is known. Bytes laid
+-- over the front of a buffer are followed by what was behind them (`front_of`). Theorem 1 is `write_then_read`,
+-- theorem 2 `read_then_write`, theorem 3 `stray_stands`, `stray_found`, `format_not_stray`, `not_stray_format` and
 -- `short_is_room`. Assumes nothing.
 use mathlib.Core.Path.{◌≡◌, refl, sym, ap, ◌∙◌}
 use mathlib.Core.Bool.{Bool, true, false, ◌&&◌}

@@ -42,7 +42,8 @@ module _ (t : List ℕ) (words bytes : ℕ) where
       go : (a b : Bool) → eqb (legible 0 t) (length t) ≡ a
           → (leb (2 * length (parts_in 0 t)) words
           && (leb (length (texts_of (parts_in 0 t))) bytes && is_short (parts_in 0 t))) ≡ b
-          → is_refused (if' a (λ _. if' b (λ _. accepted (length (parts_in 0 t) ∷ length (texts_of (parts_in 0 t)) ∷ []))
+          → is_refused (if' a (λ _. if' b
+          (λ _. accepted (length (parts_in 0 t) ∷ length (texts_of (parts_in 0 t)) ∷ []))
           (λ _. refused short_buffer [])) (λ _. refused stray_brace (legible 0 t ∷ []))) ≡ false
           → Readable t words bytes
       go false b a-is b_is p = clash refl p

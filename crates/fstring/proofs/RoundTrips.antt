@@ -6,7 +6,7 @@
 use mathlib.Core.Path.{◌≡◌, refl, sym, ap, ◌∙◌}
 use mathlib.Core.Bool.{Bool, true, false}
 use mathlib.Core.List.{List, [], ◌∷◌, ◌++◌, append_assoc}
-use Prim.Native.Nat.{ℕ, ◌+◌, ◌*◌, ◌-◌, ◌≤◌}
+use Prim.Native.Nat.{ℕ, ◌+◌, ◌*◌, ◌≤◌}
 use native.Mathlib.Omega.{arith}
 use lib.ListN.{length, get_or, take, drop, length-append, take-append-drop}
 use lib.Seq.{take-append_seam}
@@ -140,7 +140,8 @@ module _ (ws ts ds d w x : List ℕ) where
   pub record ReadBack (n : ℕ) : Type 0 where
     pub answer : read_of (take n (text_after ws ts ds d)) (length w) (length x)
         ≡ accepted (length (normal (parts_of ws ts)) ∷ length ts ∷ [])
-    pub words : words_after (take n (text_after ws ts ds d)) w (length x) ≡ over 0 (words_of (normal (parts_of ws ts))) w
+    pub words : words_after (take n (text_after ws ts ds d)) w (length x)
+        ≡ over 0 (words_of (normal (parts_of ws ts))) w
     pub texts : texts_after (take n (text_after ws ts ds d)) (length w) x ≡ over 0 ts x
 
   written : (says : Says ws ts ds (length d)) → take (length (text_for ws ts)) (text_after ws ts ds d) ≡ text_for ws ts

@@ -8,7 +8,7 @@ use mathlib.Core.Path.{◌≡◌, refl, sym, ap, ◌∙◌}
 use mathlib.Core.Bool.{Bool, true, false, ◌&&◌}
 use mathlib.Core.Logic.{⊎_elim}
 use mathlib.Core.List.{List, [], ◌∷◌, ◌++◌}
-use Prim.Native.Nat.{ℕ, zero, suc, ◌+◌, ◌*◌, ◌-◌, ◌<◌, ◌≤◌}
+use Prim.Native.Nat.{ℕ, zero, suc, ◌*◌, ◌-◌, ◌<◌, ◌≤◌}
 use native.Mathlib.Nat.{add-zero}
 use native.Mathlib.Omega.{arith}
 use lib.ListN.{length, get_or, take, drop, length-drop, take-append-drop}
@@ -180,7 +180,8 @@ unfolding read_of fit_check
 refused_place t words bytes p e = go (eqb (legible 0 t) (length t)) fit refl e
   where
     fit : Bool
-    fit = leb (2 * length (parts_in 0 t)) words && (leb (length (texts_of (parts_in 0 t))) bytes && is_short (parts_in 0 t))
+    fit = leb (2 * length (parts_in 0 t)) words
+        && (leb (length (texts_of (parts_in 0 t))) bytes && is_short (parts_in 0 t))
 
     go : (a b : Bool) → eqb (legible 0 t) (length t) ≡ a
         → if' a (λ _. if' b (λ _. accepted (length (parts_in 0 t) ∷ length (texts_of (parts_in 0 t)) ∷ []))

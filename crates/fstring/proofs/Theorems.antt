@@ -5,7 +5,7 @@
 use mathlib.Core.Path.{◌≡◌, refl, sym, ap, ◌∙◌}
 use mathlib.Core.Bool.{true}
 use mathlib.Core.List.{List, [], ◌∷◌, ◌++◌}
-use Prim.Native.Nat.{ℕ, ◌+◌, ◌*◌, ◌-◌, ◌≤◌}
+use Prim.Native.Nat.{ℕ, ◌*◌, ◌≤◌}
 use native.Mathlib.Omega.{arith}
 use lib.ListN.{length, get_or, take, drop, length-append}
 use lib.Seq.{take-append_seam, drop-append_seam}
@@ -100,7 +100,8 @@ module _ (t w x : List ℕ) (k m : ℕ) (e : read_of t (length w) (length x) ≡
   text_again = ap format_of (parts_again (parts_in 0 t)) ∙ same_text t can.legal
 
   pub record WrittenBack (ds d : List ℕ) (dialect : Dialect) : Type 0 where
-    pub accepts : write_of (take (2 * k) (words_after t w (length x))) (take m (texts_after t (length w) x)) ds (length d)
+    pub accepts : write_of (take (2 * k) (words_after t w (length x))) (take m (texts_after t (length w) x)) ds
+        (length d)
         ≡ accepted (length t ∷ notice dialect.enable_f_strings ∷ [])
     pub buffer : text_after (take (2 * k) (words_after t w (length x))) (take m (texts_after t (length w) x)) ds d
         ≡ over 0 t d
@@ -110,7 +111,8 @@ module _ (t w x : List ℕ) (k m : ℕ) (e : read_of t (length w) (length x) ≡
   unfolding text_after
   read_then_write ds d dialect valid room =
       let whole = words_whole (parts_in 0 t) in
-      let fits : length (text_for (words_of (parts_in 0 t)) (texts_of (parts_in 0 t))) ≤ length d = rw text_again room in
+      let fits : length (text_for (words_of (parts_in 0 t)) (texts_of (parts_in 0 t))) ≤ length d =
+      rw text_again room in
       let done = sound_accepted (words_of (parts_in 0 t)) (texts_of (parts_in 0 t)) ds (length d) valid whole fits in
       record {
         accepts = rw (words_read, texts_read) (done ∙ rw text_again refl);

@@ -3,6 +3,8 @@
 // Ported from fstring_from_parts in src/syntax/grammar_util.rs of starlark_syntax 0.14.2, and changed: the parts are
 // lent as words and bytes, the expressions are left out, and there is a reader. Copyright 2018 The Starlark in Rust
 // Authors. Copyright (c) Facebook, Inc. and its affiliates. Licensed under Apache-2.0.
+#![tactic(auto)]
+
 ghost use Rattle.std.specs.Prelude.{◌≡◌, true, [], ◌∷◌, ◌+◌, ◌*◌, ◌-◌, ◌≤◌, ◌<◌, length};
 ghost use Rattle.fields.specs.Over.{over};
 ghost use Rattle.table.specs.Answer.{is_refused};
@@ -35,14 +37,14 @@ const REPR: u32 = 3;
 const MOST_LENGTH: usize = 4294967295;
 
 // The answer of write: the length of the text and whether the dialect has f-strings, or the refusal.
-#[derive(Drop)]
+#[derive(Clone, Copy)]
 pub enum Written {
     Accepted { length: usize, enabled: bool },
     Refused(Refusal),
 }
 
 // The answer of read: the numbers of parts and of text bytes, or the refusal: 63 with its position, or 7.
-#[derive(Drop)]
+#[derive(Clone, Copy)]
 pub enum Reading {
     Accepted { parts: usize, bytes: usize },
     StrayAt(usize),
@@ -50,7 +52,7 @@ pub enum Reading {
 }
 
 // The form at the start of some bytes.
-#[derive(Drop)]
+#[derive(Clone, Copy)]
 enum Form {
     Plain(u8),
     Doubled(u8),
@@ -60,7 +62,7 @@ enum Form {
 }
 
 // The bytes left of a room, or that it is too short.
-#[derive(Drop)]
+#[derive(Clone, Copy)]
 enum Room {
     Left(usize),
     Short,

@@ -5,7 +5,7 @@ use mathlib.Core.Path.{◌≡◌, refl, sym, ap, ◌∙◌}
 use mathlib.Core.Bool.{true}
 use mathlib.Core.Logic.{inl, inr}
 use mathlib.Core.List.{List, [], ◌∷◌, ◌++◌}
-use Prim.Native.Nat.{ℕ, zero, suc, ◌+◌}
+use Prim.Native.Nat.{ℕ, zero, suc}
 use native.Mathlib.Omega.{arith}
 use lib.ListN.{length}
 use Rattle.fields.proofs.Basics.{never}
@@ -26,14 +26,20 @@ use Rattle.reached.proofs.Reaching.{HasArgument}
 use Rattle.namesakes.specs.Said.{called_by, Alike}
 
 pub alike_sym : (xs ys : List Argument) → Alike xs ys → Alike ys xs
+alike_sym [] (y ∷ ys) l = elim l [ ]
+alike_sym (x ∷ xs) [] l = elim l [ ]
 alike_sym [] [] l = tt
 alike_sym (x ∷ xs) (y ∷ ys) l = ((sym l.0.0, sym l.0.1), alike_sym xs ys l.1)
 
 pub alike_long : (xs ys : List Argument) → Alike xs ys → length xs ≡ length ys
+alike_long [] (y ∷ ys) l = elim l [ ]
+alike_long (x ∷ xs) [] l = elim l [ ]
 alike_long [] [] l = refl
 alike_long (x ∷ xs) (y ∷ ys) l = ap suc (alike_long xs ys l.1)
 
 alike_kinds : (xs ys : List Argument) → Alike xs ys → kinds_of xs ≡ kinds_of ys
+alike_kinds [] (y ∷ ys) l = elim l [ ]
+alike_kinds (x ∷ xs) [] l = elim l [ ]
 alike_kinds [] [] l = refl
 alike_kinds (x ∷ xs) (y ∷ ys) l = rw (l.0.0, alike_kinds xs ys l.1) refl
 
@@ -51,6 +57,8 @@ names_one (args r) l = refl
 names_one (kwargs r) l = refl
 
 alike_names : (xs ys : List Argument) → Alike xs ys → names_of xs ≡ names_of ys
+alike_names [] (y ∷ ys) l = elim l [ ]
+alike_names (x ∷ xs) [] l = elim l [ ]
 alike_names [] [] l = refl
 alike_names (x ∷ xs) (y ∷ ys) l =
     names_one x xs ∙ rw (l.0.0, l.0.1, alike_names xs ys l.1) (sym (names_one y ys))
@@ -63,6 +71,8 @@ record Like (ys : List Argument) (k : ℕ) (a : Argument) : Type 0 where
   called : called_by like ≡ called_by a
 
 over : (xs ys : List Argument) → Alike xs ys → (k : ℕ) (a : Argument) → IsAt xs k a → Like ys k a
+over [] ys l k a at = elim at [ ]
+over (x ∷ xs) [] l k a at = elim l [ ]
 over (x ∷ xs) (y ∷ ys) l zero a at = record {
   like = y;
   there = refl;

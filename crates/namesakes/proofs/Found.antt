@@ -1,7 +1,7 @@
 -- What the search by name finds, and which arguments are reported, for lists. An ordinary parameter of a name is found
 -- (`ordinary_missed`), and what is found is one (`ordinary_found`). An argument with a namesake that it does not reach
--- gives a report (`reported`); if no argument is such, there is none (`none_if_lem`). The induction is on the arguments.
--- Assumes nothing.
+-- gives a report (`reported`); if no argument is such, there is none (`none_if_lem`). The induction is on the
+-- arguments. Assumes nothing.
 use mathlib.Core.Path.{◌≡◌, refl, sym, ap, ◌∙◌}
 use mathlib.Core.Bool.{Bool, true, false, ◌&&◌, ◌||◌}
 use mathlib.Core.Logic.{◌⊎◌, inl, inr}
@@ -87,6 +87,7 @@ ordinary_found (p ∷ fs) x k i e =
 pub ordinary_missed : (fs : List FlatParam) (x : Name) (k : ℕ) → ordinary_from k x fs ≡ Nothing → (i : ℕ)
     (p : FlatParam) → IsAt fs i p → Ordinary p → p.name ≡ x → ⊥
 unfolding ordinary_from
+ordinary_missed [] x k e i p at c n = elim at [ ]
 ordinary_missed (q ∷ fs) x k e zero p at c n =
     let test : (ordinary q.mode && same q.name x) ≡ true = rw (
       ap (λ (y : FlatParam). ordinary y.mode) at ∙ passes p c,
@@ -135,6 +136,7 @@ module _ (fs : List FlatParam) (ws : List ℕ) where
       → namesake_of fs a.name ≡ At q → (get_or ws (place + k) 0 ≡ q → ⊥)
       → (m : ℕ) × IsAt (reports_from fs ws place qs) m (row_of (place + k) a q)
   unfolding reports_from
+  reported place [] k a q at n far = elim at [ ]
   reported place (b ∷ qs) zero a q at n far =
       let here : place + 0 ≡ place = omega arith in
       let row : report_of ws (node_in a.argument).at (get_or ws place 0) (At q) ≡ row_of place a q ∷ [] =
@@ -168,6 +170,7 @@ four_of r = r.argument ∷ r.reached ∷ r.namesake ∷ r.taken ∷ []
 pub row_at : (rs : List Report) (zs : List ℕ) (m : ℕ) (r : Report) → IsAt rs m r
     → take 4 (drop (4 * m) (rows rs ++ zs)) ≡ four_of r
 unfolding rows
+row_at [] zs m r at = elim at [ ]
 row_at (s ∷ rs) zs zero r at = ap four_of at
 row_at (s ∷ rs) zs (suc m) r at =
     let e : 4 * suc m ≡ suc (suc (suc (suc (4 * m)))) = omega arith in

@@ -24,7 +24,7 @@ use Rattle.deflist.specs.declared.State.{State}
 use Rattle.deflist.specs.declared.State.TheVariants.{Normal as BeforeSlash, SeenSlash, SeenStar, SeenStarStar}
 use Rattle.arguments.specs.Written.{Argument, arguments_in, argument_of, arguments_of}
 use Rattle.bind.specs.FlatList.{FlatParam, name_in, flat_param}
-use Rattle.bind.specs.Reading.{behind_callee, flats_of as flatCount}
+use Rattle.bind.specs.Reading.{behind_callee, flats_of as flat_count}
 use Rattle.namesakes.specs.Namesake.{has_name, nameless, label, label_of, Labelled, labelled_in, labelled_of}
 use Rattle.namesakes.specs.Namesake.{ordinary_from}
 use Rattle.namesakes.specs.Reading.{is_normal, is_named}
@@ -87,7 +87,8 @@ module _ (ns : List ℕ) (i : ℕ) (t : List ℕ) where
 -- LAW: one parameter more, for the search by name
 pub ordinary_one : (f : ℕ) (x : Name) (s : State) (p : Param) (fs : List FlatParam)
     → ordinary_from f x (map (flat_param p) (mode_of s (kind_in p)) ++ fs)
-    ≡ if' (is_normal (kind_in p) && same (name_in p) x) (λ _. At f) (λ _. ordinary_from (f + flatCount (kind_in p)) x fs)
+    ≡ if' (is_normal (kind_in p) && same (name_in p) x) (λ _. At f)
+    (λ _. ordinary_from (f + flat_count (kind_in p)) x fs)
 unfolding ordinary_from
 ordinary_one f x BeforeSlash (normal r n d) fs = refl
 ordinary_one f x SeenSlash (normal r n d) fs = refl

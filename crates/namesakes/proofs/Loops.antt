@@ -25,7 +25,7 @@ use Rattle.deflist.specs.declared.Kind.TheVariants.{Normal, NoArgs, Slash, Args,
 use Rattle.deflist.specs.declared.State.{State}
 use Rattle.deflist.proofs.Reading.{kind_in_lem, listed_long, list_on, list_end}
 use Rattle.bind.specs.FlatList.{name_in, flats_from, flats}
-use Rattle.bind.specs.Reading.{flats_of as flatCount}
+use Rattle.bind.specs.Reading.{flats_of as flat_count}
 use Rattle.bind.proofs.Lists.{arg_node}
 use Rattle.namesakes.specs.Namesake.{label_of, labelled_in, ordinary_from, namesake_of, Report, report_of, reports_from}
 use Rattle.namesakes.specs.Namesake.{rows}
@@ -50,7 +50,7 @@ find_start ns x params = record {
   same = λ i. refl;
 }
 
-flats_one : (k : Kind) → flatCount k ≤ 1
+flats_one : (k : Kind) → flat_count k ≤ 1
 flats_one (Normal d) = omega arith
 flats_one NoArgs = omega arith
 flats_one Slash = omega arith
@@ -70,7 +70,7 @@ module _ {ns x params left : List ℕ} {f : ℕ} (y : Finding ns x params left f
       (b_is : b ≡ (is_normal k && same (name_of ns (node_of 0 left)) x)) where
     find_one : (i : ℕ) {e : ℕ} → e ≡ span_of left
         → ordinary_from f x (flats_from (y.state i) (params_in ns (forest (y.from i) left)))
-        ≡ if' b (λ _. At f) (λ _. ordinary_from (f + flatCount k) x (flats_from (next_state (y.state i) k)
+        ≡ if' b (λ _. At f) (λ _. ordinary_from (f + flat_count k) x (flats_from (next_state (y.state i) k)
         (params_in ns (forest (y.from i + e / 24) (take (length left - e) (drop e left))))))
     unfolding flats_from
     find_one i e-is =
@@ -86,7 +86,7 @@ module _ {ns x params left : List ℕ} {f : ℕ} (y : Finding ns x params left f
         find_one i refl ∙ rw h refl in
         sym here ∙ y.same i
 
-    pub find_on : b ≡ false → {g e : ℕ} → g ≡ flatCount k → e ≡ span_of left
+    pub find_on : b ≡ false → {g e : ℕ} → g ≡ flat_count k → e ≡ span_of left
         → Finding ns x params (take (length left - e) (drop e left)) (f + g)
     find_on h {g} {e} g-is e-is = record {
       room = simp (length-take, length-drop)
@@ -95,7 +95,7 @@ module _ {ns x params left : List ℕ} {f : ℕ} (y : Finding ns x params left f
       state = λ i. next_state (y.state i) k;
       same = λ i.
           let on : ordinary_from f x (flats_from (y.state i) (params_in ns (forest (y.from i) left)))
-          ≡ ordinary_from (f + flatCount k) x (flats_from (next_state (y.state i) k)
+          ≡ ordinary_from (f + flat_count k) x (flats_from (next_state (y.state i) k)
           (params_in ns (forest (y.from i + e / 24) (take (length left - e) (drop e left))))) = find_one i e-is
           ∙ rw h refl in
           rw g-is (sym on ∙ y.same i);
@@ -185,7 +185,8 @@ module _ {ns params args : List ℕ} {first from : ℕ} {ws list₀ list left : 
     scan_lent = simp (length-take, length-drop)
         (omega (arith, y.lent, y.fits, y.long, ap length (labelled_on ns at left big refl)))
 
-    module _ {q : Place} (q-is : (i j : ℕ) → q ≡ namesake_of (flats_of ns i params) (label_of ns (forest j (kids_of left))))
+    module _ {q : Place}
+        (q-is : (i j : ℕ) → q ≡ namesake_of (flats_of ns i params) (label_of ns (forest j (kids_of left))))
         {p : ℕ} (p-is : p ≡ get_or ws place 0) {e : ℕ} (e-is : e ≡ span_of left) where
       abbrev rest : List ℕ
       rest = take (length left - e) (drop e left)

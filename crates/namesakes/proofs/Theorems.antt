@@ -45,6 +45,7 @@ use Rattle.namesakes.proofs.Found.{row_at}
 
 -- an argument with its name is an argument
 bare_at : (qs : List Labelled) (k : ℕ) (a : Labelled) → IsAt qs k a → IsAt (bare qs) k a.argument
+bare_at [] k a at = elim at [ ]
 bare_at (b ∷ qs) zero a at = ap (λ (x : Labelled). x.argument) at
 bare_at (b ∷ qs) (suc k) a at = bare_at qs k a at
 

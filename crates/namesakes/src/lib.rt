@@ -1,5 +1,7 @@
 // Reports the arguments of a call that have the name of one ordinary parameter and reach another, such as two arguments
 // that are exchanged. Uses the binding of the crate `bind`.
+#![tactic(auto)]
+
 ghost use Rattle.std.specs.Prelude.{◌≡◌, ◌&&◌, List, [], ℕ, ◌*◌, ◌≤◌, length, get_or, replicate};
 ghost use Rattle.forest.specs.Forest.{record_bytes, node_of, kids_of, forest};
 ghost use Rattle.forest.specs.Names.{name_of, same};
@@ -9,7 +11,7 @@ ghost use Rattle.table.specs.declared.Place.TheVariants.{At};
 ghost use Rattle.arguments.specs.Written.{arguments_in};
 ghost use Rattle.bind.specs.FlatList.{flats};
 ghost use Rattle.bind.specs.Job.{arguments_at};
-ghost use Rattle.bind.specs.Reading.{Behind, flats_of as flatCount};
+ghost use Rattle.bind.specs.Reading.{Behind, flats_of as flat_count};
 ghost use Rattle.parameters.specs.Params.{list_of};
 ghost use Rattle.namesakes.specs.Namesake.{label_of, labelled_in, ordinary_from, namesake_of, report_of, reports_from};
 ghost use Rattle.namesakes.specs.Job.{entry_of, reports_at, written, namesakes_of, list_after, named};
@@ -22,7 +24,7 @@ use soundness::kinds;
 use table::{Checked, MOST_NODES, Place, Refusal, Wanted, numbers};
 
 // The answer of the job: the number of arguments reported, or a refusal.
-#[derive(Drop)]
+#[derive(Clone, Copy)]
 pub enum Named {
     Found(u32),
     Refused(Refusal),
@@ -287,7 +289,7 @@ fn is_normal(kind: Kind) -> bool
 
 // The number of flat parameters of one of a kind: 0 for a mark, else 1.
 fn flat_count(kind: Kind) -> u32
-    ensures { (result ≡ flatCount kind) × (result ≤ 1) }
+    ensures { (result ≡ flat_count kind) × (result ≤ 1) }
 {
     match kind {
         Kind::Normal(_) => 1,

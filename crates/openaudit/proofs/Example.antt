@@ -37,20 +37,24 @@ use Rattle.openaudit.specs.Example.{bad_type, bad_names, types_open, before, aft
 
 -- the table passes 1 to 4
 sound : check_of bad_type bad_names ≡ accepted []
-unfolding check_of length_sound first_unsound first_false record_sound root_sound sound_at sound_node context_of files_of top_of
-    ends_by file_sound fields_sound name_sound span_sound source_sound whole_trees classes permitted wanted permits kids_sound
+unfolding check_of length_sound first_unsound first_false record_sound root_sound sound_at sound_node context_of
+    files_of top_of
+    ends_by file_sound fields_sound name_sound span_sound source_sound whole_trees classes permitted wanted permits
+    kids_sound
     kind_in kind_of forest_in forest kids_of rest_of size_of field count same first_deep class_weight weight
 sound = refl
 
 -- EXAMPLE: the two lists
 pub list_before : all_errors bad_type bad_names closed 1 ≡ before
-unfolding all_errors audit_errors pass_errors edition_of rules_of given_of from_bytes valid_bytes within record_of forest_in
+unfolding all_errors audit_errors pass_errors edition_of rules_of given_of from_bytes valid_bytes within record_of
+    forest_in
     forest kids_of rest_of size_of field kind_in kind_of arm_of f expr_errors expr without_lists roles_of placed wants
     kind_errors role_errors refused_there refusals check_assign leaves type_check check_assignment dialect_check_type
 list_before = rw sound refl
 
 pub list_after_lem : all_errors bad_type bad_names types_open 1 ≡ after
-unfolding all_errors audit_errors pass_errors edition_of rules_of given_of from_bytes valid_bytes within record_of forest_in
+unfolding all_errors audit_errors pass_errors edition_of rules_of given_of from_bytes valid_bytes within record_of
+    forest_in
     forest kids_of rest_of size_of field kind_in kind_of arm_of f expr_errors expr without_lists roles_of placed wants
     kind_errors role_errors refused_there refusals check_assign leaves type_check check_assignment dialect_check_type
     form_of at_node «unpack»

@@ -21,7 +21,7 @@ use Rattle.table.specs.Answer.{Answer, accepted, refused, and_then}
 use Rattle.arguments.specs.Written.{Argument, node_in, kind_in, arguments_of}
 use Rattle.arguments.specs.Call.{past_positional, past_named, in_kwargs, new_name, rule, repeats, check, taken, total}
 use Rattle.arguments.specs.Call.{Outcome, unpacked, internal_error, unless_broken, advance, run, start}
-use Rattle.arguments.specs.Call.{unpack as callUnpack}
+use Rattle.arguments.specs.Call.{unpack as call_unpack}
 use Rattle.arguments.specs.Job.{outcome_answer, call_answer}
 use Rattle.arguments.specs.declared.ArgsStage.{ArgsStage}
 use Rattle.arguments.specs.declared.Check.{Check}
@@ -99,7 +99,7 @@ run_small before w (p ∷ ps) =
     go (Repeated i) h b rest q = refl
 
 pub call_small : (names : List ℕ) (t : Tree) → small (call_answer names t) ≡ true
-unfolding call_answer callUnpack
+unfolding call_answer call_unpack
 call_small names t = run_small [] start (arguments_of names t)
 
 -- a target, and an assignment: 30 to 33

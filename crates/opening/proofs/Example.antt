@@ -28,19 +28,23 @@ use Rattle.opening.specs.Example.{if_break, closed, top_level_open, before, afte
 
 -- the table passes 1 to 4
 sound : check_of if_break [] ≡ accepted []
-unfolding check_of length_sound first_unsound first_false record_sound root_sound sound_at sound_node context_of files_of top_of
-    ends_by file_sound fields_sound name_sound span_sound source_sound whole_trees classes permitted wanted permits kids_sound
+unfolding check_of length_sound first_unsound first_false record_sound root_sound sound_at sound_node context_of
+    files_of top_of
+    ends_by file_sound fields_sound name_sound span_sound source_sound whole_trees classes permitted wanted permits
+    kids_sound
     kind_in kind_of forest_in forest kids_of rest_of size_of field count same first_deep class_weight weight
 sound = refl
 
 -- EXAMPLE: the two lists
 pub list_before : errors_of if_break [] closed ≡ before
-unfolding errors_of given_of from_bytes valid_bytes within record_of forest_in forest kids_of rest_of size_of field kind_in kind_of
+unfolding errors_of given_of from_bytes valid_bytes within record_of forest_in forest kids_of rest_of size_of field
+    kind_in kind_of
     arm_of f expr_errors expr
 list_before = rw sound refl
 
 pub list_after_lem : errors_of if_break [] top_level_open ≡ after
-unfolding errors_of given_of from_bytes valid_bytes within record_of forest_in forest kids_of rest_of size_of field kind_in kind_of
+unfolding errors_of given_of from_bytes valid_bytes within record_of forest_in forest kids_of rest_of size_of field
+    kind_in kind_of
     arm_of f expr_errors expr
 list_after_lem = rw sound refl
 

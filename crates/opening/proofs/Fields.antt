@@ -30,7 +30,8 @@ bit_least true true h = refl
 bit_least true false h = absurd (omega (arith, h))
 bit_least false c h = refl
 
-types_least : (x y : DialectTypes) → types_number x ≤ types_number y → at_least (permits_types x) (permits_types y) ≡ true
+types_least : (x y : DialectTypes) → types_number x ≤ types_number y
+    → at_least (permits_types x) (permits_types y) ≡ true
 types_least Disable y h = refl
 types_least ParseOnly Disable h = absurd (omega (arith, h))
 types_least ParseOnly ParseOnly h = refl

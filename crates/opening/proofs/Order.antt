@@ -1,9 +1,9 @@
--- `permits_all` is a partial order of dialects. Each of its nine tests compares two numbers (`bit_order`, `rank_order`),
--- so `permits_all` is dialect's `within` on the two rows of nine numbers (`permits_row`). For rows, which are lists, the
--- three laws of an order are by induction: reflexive, transitive, antisymmetric (`within_self`, `within_on`,
--- `within_same`). A dialect is determined by its row (`record_back`), and valid bytes are the row of their dialect, so
--- the same holds for dialects (`order_self`, `order_on`, `order_one`) and for the bytes that people type
--- (`bytes_in_order`, `in_order_bytes`). Assumes nothing.
+-- `permits_all` is a partial order of dialects. Each of its nine tests compares two numbers (`bit_order`,
+-- `rank_order`), so `permits_all` is dialect's `within` on the two rows of nine numbers (`permits_row`). For rows,
+-- which are lists, the three laws of an order are by induction: reflexive, transitive, antisymmetric (`within_self`,
+-- `within_on`, `within_same`). A dialect is determined by its row (`record_back`), and valid bytes are the row of
+-- their dialect, so the same holds for dialects (`order_self`, `order_on`, `order_one`) and for the bytes that people
+-- type (`bytes_in_order`, `in_order_bytes`). Assumes nothing.
 use mathlib.Core.Path.{◌≡◌, refl, sym, ap, ◌∙◌}
 use mathlib.Core.Bool.{Bool, true, false, ◌&&◌}
 use mathlib.Core.List.{List, [], ◌∷◌, map}
@@ -149,7 +149,8 @@ module _ (first second : List ℕ) (p : valid_bytes first ≡ true) (q : valid_b
   rows : permits_all (record_of first) (record_of second) ≡ within second first
   rows = permits_row (record_of first) (record_of second) ∙ rw (row_of_record first p, row_of_record second q) refl
 
-  pub bytes_in_order : permits_all (record_of first) (record_of second) ≡ true → (i : ℕ) → get_or first i 0 ≤ get_or second i 0
+  pub bytes_in_order : permits_all (record_of first) (record_of second) ≡ true → (i : ℕ)
+      → get_or first i 0 ≤ get_or second i 0
   bytes_in_order h = within_at second first (sym rows ∙ h)
 
   pub in_order_bytes : ((i : ℕ) → get_or first i 0 ≤ get_or second i 0)

@@ -13,7 +13,7 @@ use lib.ListN.{length}
 use borrow.Author.Tests.{le-leb, leb-true}
 use Rattle.table.proofs.Answers.{never_passed, passed_both, test_passed}
 use Rattle.forest.specs.Forest.{node_of}
-use Rattle.table.specs.Answer.{accepted, refused}
+use Rattle.table.specs.Answer.{accepted}
 use Rattle.table.specs.Check.{check_of, node_fits, stretch_of, entry_check, on_node}
 use Rattle.table.specs.declared.Wanted.TheVariants.{Parameters}
 use Rattle.table.proofs.Checking.{accepted_clean}

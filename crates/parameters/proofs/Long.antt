@@ -56,5 +56,6 @@ nineteen_long t ns node room {vs} e =
         → most_parameters < length l
     go (def.accepted c) h e = never (cc)
     go (def.refused n r) h e = let same : n ≡ too_many_parameters = cc in limited_nineteen owner l (rw same at h)
-    go (def.repeated i r) h e = let same : duplicated_parameter ≡ too_many_parameters = cc in absurd (omega (arith, same))
+    go (def.repeated i r) h e = let same : duplicated_parameter
+        ≡ too_many_parameters = cc in absurd (omega (arith, same))
     go (def.internal x r) h e = let same : 0 ≡ too_many_parameters = cc in absurd (omega (arith, same))

@@ -11,7 +11,7 @@ use lib.Dec.{leb}
 use Rattle.fields.proofs.Basics.{never}
 use Rattle.forest.specs.Forest.{Node, node_of}
 use Rattle.table.specs.Numbers.{short_buffer, duplicated_parameter}
-use Rattle.table.specs.Answer.{accepted, refused, OnlyCarries, span_values, span_at}
+use Rattle.table.specs.Answer.{refused, OnlyCarries, span_values, span_at}
 use Rattle.table.specs.Check.{stretch_of, entry_check, on_node}
 use Rattle.table.specs.declared.Wanted.TheVariants.{Parameters}
 use Rattle.table.proofs.Carried.{Before, before_test, carries_then, from_next, entry_before}

@@ -5,12 +5,14 @@
 // written once the list is accepted.
 // Copyright 2018 The Starlark in Rust Authors. Copyright (c) Facebook, Inc. and its affiliates.
 // Licensed under Apache-2.0.
+#![tactic(auto)]
+
 pub mod indices;
 
 ghost use Rattle.std.specs.Prelude.{◌≡◌, true, ◌+◌, ◌<◌, ◌^◌, length};
 ghost use Rattle.std.proofs.lemmas.List.Edits.{sets};
 ghost use Rattle.forest.specs.Forest.{node_of, forest};
-ghost use Rattle.table.specs.Answer.{refusal as refusalOf};
+ghost use Rattle.table.specs.Answer.{refusal as refusal_of};
 ghost use Rattle.table.specs.Check.{Headed};
 ghost use Rattle.deflist.specs.Written.{written};
 ghost use Rattle.deflist.specs.Reading.{NotPast, PlaceBelow, Bounded};
@@ -27,7 +29,7 @@ use forest::Found;
 use table::{Checked, Place, Refusal, Wanted, numbers};
 
 // The sizes and indices that split the flat list into its parts, as the crate has them.
-#[derive(Drop)]
+#[derive(Clone, Copy)]
 pub struct DefParamIndices {
     pub num_positional: u32,
     pub num_positional_only: u32,
@@ -36,21 +38,21 @@ pub struct DefParamIndices {
 }
 
 // DefParamIndices and the flat count.
-#[derive(Drop)]
+#[derive(Clone, Copy)]
 pub struct Counted {
     pub indices: DefParamIndices,
     pub flat: u32,
 }
 
 // The indices from `from` to before `upto`.
-#[derive(Drop)]
+#[derive(Clone, Copy)]
 pub struct Range {
     pub from: usize,
     pub upto: usize,
 }
 
 // The answer of the job.
-#[derive(Drop)]
+#[derive(Clone, Copy)]
 pub enum Unpacked {
     Accepted(Counted),
     Refused(Refusal),
@@ -242,7 +244,7 @@ fn earlier_place(found: Found) -> Place
 // A refusal at a parameter.
 fn refusal(f: Fault) -> Refusal
     requires { SmallFault f }
-    ensures { refusalOf result ≡ fault_answer f }
+    ensures { refusal_of result ≡ fault_answer f }
 {
     let span = f.span;
     let earlier = f.earlier;

@@ -69,7 +69,7 @@ other_list ps = made other_of ps
 
 record Paired (l m : List Argument) : Type 0 where
   pairs : List Pair
-  is_one : l ≡ one_list pairs
+  is_one_lem : l ≡ one_list pairs
   is_other : m ≡ other_list pairs
 
 module _ (names others : List ℕ) where
@@ -89,14 +89,14 @@ module _ (names others : List ℕ) where
   arguments_paired : (ts us : Forest) → SameTrees names others ts us
       → Paired (arguments_in names ts) (arguments_in others us)
   unfolding arguments_in argument_of kind_at SameTrees made
-  arguments_paired none none h = record { pairs = []; is_one = refl; is_other = refl }
+  arguments_paired none none h = record { pairs = []; is_one_lem = refl; is_other = refl }
   arguments_paired none (u then us) h = absurd h
   arguments_paired (t then ts) none h = absurd h
   arguments_paired (node r ks then ts) (node s ls then us) ((h, below), rest) =
       let more = arguments_paired ts us rest in
       record {
         pairs = pair_of h ∷ more.pairs;
-        is_one = made _ _ (ap kind_at h.kind) _ _ h.name _ _ more.is_one;
+        is_one_lem = made _ _ (ap kind_at h.kind) _ _ h.name _ _ more.is_one_lem;
         is_other = ap (λ (l : List Argument). argument_of others s ∷ l) more.is_other;
       }
     where
@@ -192,4 +192,4 @@ pub call_same : (names others : List ℕ) (t u : Tree) → SameTree names others
 unfolding call_answer unpack made
 call_same names others t u h =
     let both = call_paired names others t u h in
-    rw (both.is_one, both.is_other) (run_same [] start both.pairs)
+    rw (both.is_one_lem, both.is_other) (run_same [] start both.pairs)

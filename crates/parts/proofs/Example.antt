@@ -65,10 +65,12 @@ extended = record_of (row_named Extended)
 pub whole_reads : read (validate_module extended whole_names (under (root_at 0 20 7) (joined in_two)))
     ≡ misplaced ∷ twice ∷ []
 unfolding joined ◌beside◌ read f arm_of expr expr_errors with_params validate_params every_mark limited unpack params_in
-    param_of kind_at name_of has_name first_same repeats advance step finish run slash_from start same kind_in kind_of record_of
+    param_of kind_at name_of has_name first_same repeats advance step finish run slash_from start same kind_in kind_of
+    record_of
 whole_reads = refl
 
 pub parts_read : read_in_turn (validate_module extended) in_two ≡ twice ∷ misplaced ∷ []
 unfolding read_in_turn read f arm_of expr expr_errors with_params validate_params every_mark limited unpack params_in
-    param_of kind_at name_of has_name first_same repeats advance step finish run slash_from start same kind_in kind_of record_of
+    param_of kind_at name_of has_name first_same repeats advance step finish run slash_from start same kind_in kind_of
+    record_of
 parts_read = refl

@@ -74,7 +74,7 @@ other_list ps = made other_of ps
 
 pub record Paired (l m : List Param) : Type 0 where
   pairs : List Pair
-  is_one : l ≡ one_list pairs
+  is_one_lem : l ≡ one_list pairs
   is_other : m ≡ other_list pairs
 
 module _ (names others : List ℕ) where
@@ -88,9 +88,10 @@ module _ (names others : List ℕ) where
   }
 
   -- LAW: the parameters that come first among trees that say the same
-  pub params_paired : (ts us : Forest) → SameTrees names others ts us → Paired (params_in names ts) (params_in others us)
+  pub params_paired : (ts us : Forest) → SameTrees names others ts us
+      → Paired (params_in names ts) (params_in others us)
   unfolding params_in param_of kind_at SameTrees made
-  params_paired none none h = record { pairs = []; is_one = refl; is_other = refl }
+  params_paired none none h = record { pairs = []; is_one_lem = refl; is_other = refl }
   params_paired none (u then us) h = absurd h
   params_paired (t then ts) none h = absurd h
   params_paired (node r ks then ts) (node s ls then us) ((h, below), rest) =
@@ -106,10 +107,10 @@ module _ (names others : List ℕ) where
       go : (b c : Bool) → b ≡ c → Paired (params_in names ts) (params_in others us)
           → Paired (if' b (λ _. param_of names r ∷ params_in names ts) (λ _. []))
           (if' c (λ _. param_of others s ∷ params_in others us) (λ _. []))
-      go false false e more = record { pairs = []; is_one = refl; is_other = refl }
+      go false false e more = record { pairs = []; is_one_lem = refl; is_other = refl }
       go true true e more = record {
         pairs = pair_of h ∷ more.pairs;
-        is_one = made _ _ (kinds _ _ h.kind _ _ h.detail) _ _ h.name _ _ more.is_one;
+        is_one_lem = made _ _ (kinds _ _ h.kind _ _ h.detail) _ _ h.name _ _ more.is_one_lem;
         is_other = ap (λ (l : List Param). param_of others s ∷ l) more.is_other;
       }
       go true false e more = never (cc)
@@ -245,7 +246,7 @@ module _ {names others : List ℕ} {r s : Node} (h : SameRecord names others r s
   pub list_same : Paired l m → Reads (unpack_error (told (limited r l))) (unpack_error (told (limited s m)))
   unfolding limited
   list_same both =
-      rw (both.is_one, both.is_other, made_length one_of both.pairs, made_length other_of both.pairs)
+      rw (both.is_one_lem, both.is_other, made_length one_of both.pairs, made_length other_of both.pairs)
       (choose_same (ltb most_parameters (length both.pairs)) _ _ _ _
       (reads_at h too_many_parameters)
       (unpack_same both.pairs))
@@ -265,4 +266,4 @@ every_same m (p ∷ ps) =
 
 pub marks_same : (d : Dialect) (m : Mark) {l k : List Param} → Paired l k → Reads (marks d m l) (marks d m k)
 marks_same d m both =
-    rw (both.is_one, both.is_other) (reads_if (permits d m) _ refl _ _ _ _ refl (every_same m both.pairs))
+    rw (both.is_one_lem, both.is_other) (reads_if (permits d m) _ refl _ _ _ _ refl (every_same m both.pairs))

@@ -203,7 +203,8 @@ module _ (d : Dialect) (edition : Edition) where
   audit_body names ts = without_lists (module_body d names ts) ++ refusals_in d edition names ts
 
   audit_beside : (test : List ℕ → Bool) (names : List ℕ) (ts us : Forest)
-      → tally test (audit_body names (ts beside us)) ≡ tally test (audit_body names ts) + tally test (audit_body names us)
+      → tally test (audit_body names (ts beside us))
+      ≡ tally test (audit_body names ts) + tally test (audit_body names us)
   audit_beside test names ts us =
       rw (stmts_beside d names at_top ts us, exprs_beside d names ts us, refusals_beside d names edition ts us)
       (six test (visit_stmt d names at_top ts) (visit_stmt d names at_top us) (visit_expr d names ts)

@@ -55,6 +55,7 @@ record NameIn (qs : List Argument) (x : Name) : Type 0 where
   pub is : get_or (names_of qs) place [] ≡ x
 
 name_in_lem : (qs : List Argument) (j : ℕ) (r : Node) (x : Name) → IsAt qs j (named r x) → NameIn qs x
+name_in_lem [] j r x e = elim e [ ]
 name_in_lem (positional s ∷ qs) zero r x e = never (cc)
 name_in_lem (named s y ∷ qs) zero r x e = let same : y ≡ x = cc in record { place = 0; inside = omega arith; is = same }
 name_in_lem (args s ∷ qs) zero r x e = never (cc)
@@ -74,6 +75,7 @@ distinct_rest x ns d i j h g e = d (suc i) (suc j) (omega arith) (omega arith) e
 -- LAW: where names are distinct, no two named arguments have the same one
 pub names_apart : (qs : List Argument) → Distinct (names_of qs) → (j l : ℕ) (r s : Node) (x y : Name) → j < l
     → IsAt qs j (named r x) → IsAt qs l (named s y) → x ≡ y → ⊥
+names_apart [] d j (suc l) r s x y h e f same = elim e [ ]
 names_apart qs d j zero r s x y h e f same = absurd (omega arith)
 names_apart (positional u ∷ qs) d zero (suc l) r s x y h e f same = never (cc)
 names_apart (named u z ∷ qs) d zero (suc l) r s x y h e f same =

@@ -38,9 +38,9 @@ use Rattle.deflist.specs.declared.Counts.{Counts}
 use Rattle.deflist.specs.declared.Unpacking.{Unpacking}
 use Rattle.arguments.specs.Written as written
 use Rattle.arguments.specs.Call as call
-use Rattle.arguments.specs.Call.{run as callRun, check as callCheck, unpack as callUnpack}
+use Rattle.arguments.specs.Call.{run as call_run, check as call_check, unpack as call_unpack}
 use Rattle.arguments.specs.Job.{outcome_answer}
-use Rattle.arguments.specs.declared.Check as callChecks
+use Rattle.arguments.specs.declared.Check as call_checks
 use Rattle.arguments.specs.declared.Check.TheVariants.{Fine as Kept, Broken as Stopped, Repeated}
 use Rattle.arguments.specs.declared.Kind as forms
 use Rattle.arguments.specs.declared.Kind.TheVariants.{Positional, Named, Args as Star, KwArgs as StarStar}
@@ -198,7 +198,8 @@ early_list [] = early_run [] (list.start (list.flat_at 0)) []
 early_list (p ∷ ps) = go (list.is_slash (kind_in p))
     (early_run [] (list.start (list.positional_only (list.first_slash (p ∷ ps)))) (p ∷ ps))
   where
-    go : (b : Bool) → EarlyOutcome (list.run [] (list.start (list.positional_only (list.first_slash (p ∷ ps)))) (p ∷ ps))
+    go : (b : Bool) → EarlyOutcome
+        (list.run [] (list.start (list.positional_only (list.first_slash (p ∷ ps)))) (p ∷ ps))
         → EarlyOutcome (if' b (λ _. list.refused 10 (node_in p)) (λ _.
         list.run [] (list.start (list.positional_only (list.first_slash (p ∷ ps)))) (p ∷ ps)))
     go true e = omega arith
@@ -220,7 +221,7 @@ abbrev pub CallNumber : Answer → Type 0
 CallNumber (accepted vs) = Unit {0}
 CallNumber (refused n vs) = InCall n
 
-abbrev EarlyKept : callChecks.Check → Type 0
+abbrev EarlyKept : call_checks.Check → Type 0
 EarlyKept Kept = Unit {0}
 EarlyKept (Stopped n) = (19 < n) × (n < 25)
 EarlyKept (Repeated i) = Unit {0}
@@ -247,7 +248,7 @@ early_form AtKwargs f StarStar = (omega arith, omega arith)
 
 number_walk : (before : List written.Argument) (w : Walk) (l : List written.Argument)
     → CallNumber (outcome_answer (call.run before w l))
-unfolding callRun callCheck
+unfolding call_run call_check
 number_walk before w [] = go (eqb (call.total w.counts) (length before))
   where
     go : (b : Bool) → CallNumber (outcome_answer (if' b (λ _. call.unpacked w.counts) (λ _. call.internal_error)))
@@ -257,10 +258,11 @@ number_walk before w (p ∷ ps) = go (call.check before w.stage p) (call.taken w
     (early_form w.stage (call.repeats before p) (written.kind_in p))
     (number_walk (before ++ p ∷ []) (call.advance w (length before) (written.kind_in p)) ps)
   where
-    go : (x : callChecks.Check) (b : Bool) → EarlyKept x
+    go : (x : call_checks.Check) (b : Bool) → EarlyKept x
         → CallNumber (outcome_answer
         (call.run (before ++ p ∷ []) (call.advance w (length before) (written.kind_in p)) ps))
-        → CallNumber (outcome_answer (call.unless_broken x (written.node_in p) (λ _. if' b (λ _. call.internal_error) (λ _.
+        → CallNumber (outcome_answer
+        (call.unless_broken x (written.node_in p) (λ _. if' b (λ _. call.internal_error) (λ _.
         call.run (before ++ p ∷ []) (call.advance w (length before) (written.kind_in p)) ps))))
     go Kept true e rest = inl refl
     go Kept false e rest = rest
@@ -268,7 +270,7 @@ number_walk before w (p ∷ ps) = go (call.check before w.stage p) (call.taken w
     go (Repeated i) b e rest = inr (omega arith, omega arith)
 
 pub call_numbers : (l : List written.Argument) → CallNumber (outcome_answer (call.unpack l))
-unfolding callUnpack
+unfolding call_unpack
 call_numbers l = number_walk [] call.start l
 
 pub early_call : (l : List written.Argument) → Early (outcome_answer (call.unpack l))

@@ -32,7 +32,7 @@ use Rattle.demand3.specs.Example.{record_at}
 use Rattle.demand3.specs.Given.{CutOf}
 use Rattle.demand3.specs.Cut.{Cut}
 use Rattle.demand3.proofs.Demand3.{accepted_iff_cut}
-use Rattle.arguments.specs.Written.{positional, named, args, kwargs, kind_at as argumentKind, argument_of}
+use Rattle.arguments.specs.Written.{positional, named, args, kwargs, kind_at as argument_kind, argument_of}
 use Rattle.arguments.specs.Written.{arguments_in}
 use Rattle.arguments.specs.Accepted.{Ordered}
 use Rattle.arguments.specs.Call as call
@@ -46,19 +46,24 @@ use Rattle.reached.specs.Example.{table, names, room, params, arguments, counts}
 use Rattle.reached.proofs.Reached.{accepted_by_rules}
 
 pub sound : check_of table names ≡ accepted []
-unfolding check_of length_sound field size_of kids_of rest_of forest_in forest count count_tree same kind_in kind_of name_sound
-    span_sound source_sound fields_sound whole_trees classes permitted wanted permits kids_sound sound_node sound_at root_sound
-    file_sound ends_by top_of files_of context_of record_sound first_false first_unsound class_weight weight first_deep deep_in
+unfolding check_of length_sound field size_of kids_of rest_of forest_in forest count count_tree same kind_in kind_of
+    name_sound
+    span_sound source_sound fields_sound whole_trees classes permitted wanted permits kids_sound sound_node sound_at
+    root_sound
+    file_sound ends_by top_of files_of context_of record_sound first_false first_unsound class_weight weight first_deep
+    deep_in
 sound = refl
 
 -- the lists are these
 pub params_are : flats_at table names 1 ≡ params
-unfolding flats flats_from slash_from list_of written params_in param_of kind_at stretch_of field size_of kids_of rest_of forest_in
+unfolding flats flats_from slash_from list_of written params_in param_of kind_at stretch_of field size_of kids_of
+    rest_of forest_in
     forest kind_in kind_of name_of
 params_are = refl
 
 pub arguments_are : arguments_at table names 11 ≡ arguments
-unfolding arguments_at arguments_in argument_of argumentKind stretch_of field size_of kids_of rest_of forest_in forest name_of
+unfolding arguments_at arguments_in argument_of argument_kind stretch_of field size_of kids_of rest_of forest_in forest
+    name_of
 arguments_are = refl
 
 -- no star; a parameter for each argument
@@ -161,7 +166,8 @@ matching = record {
 
 -- the list can be cut, since the job on the parameters accepts it
 has_cut : (c : Cut) × CutOf (list_of table names 1) c
-unfolding list_of written params_in param_of kind_at stretch_of field size_of kids_of rest_of forest_in forest kind_in kind_of
+unfolding list_of written params_in param_of kind_at stretch_of field size_of kids_of rest_of forest_in forest kind_in
+    kind_of
     name_of params_of list_answer limited on_node entry_check node_fits wants slash_from counted_of
     def.unpack def.run def.step def.repeats def.first_same def.start def.advance def.has_name same def.finish
 has_cut = ((accepted_iff_cut table names 1 room
@@ -170,8 +176,10 @@ has_cut = ((accepted_iff_cut table names 1 room
 
 -- the arguments are in order, since the job on the call accepts it
 in_order_lem : Ordered (arguments_at table names 11) counts
-unfolding arguments_at arguments_in argument_of argumentKind stretch_of field size_of kids_of rest_of forest_in forest name_of
-    call_answer on_node entry_check node_fits wants call.unpack call.run call.check call.repeats call.first_same call.has_name
+unfolding arguments_at arguments_in argument_of argument_kind stretch_of field size_of kids_of rest_of forest_in forest
+    name_of
+    call_answer on_node entry_check node_fits wants call.unpack call.run call.check call.repeats call.first_same
+    call.has_name
     call.advance same
 in_order_lem =
     let e : call_of table names 11 ≡ accepted (call_values counts) = rw sound refl in

@@ -9,8 +9,8 @@ use Rattle.forest.specs.Names.{same}
 use Rattle.deflist.specs.Unpack.{has_name, first_same, repeats, advance, step, finish, run, slash_from, start, unpack}
 use Rattle.deflist.specs.Limited.{limited}
 use Rattle.parameters.specs.Indices.{counted_of}
-use Rattle.arguments.specs.Call.{first_same as callSame, has_name as callName, repeats as callRepeats, check}
-use Rattle.arguments.specs.Call.{advance as callAdvance, run as callRun, unpack as callUnpack}
+use Rattle.arguments.specs.Call.{first_same as call_same, has_name as call_name, repeats as call_repeats, check}
+use Rattle.arguments.specs.Call.{advance as call_advance, run as call_run, unpack as call_unpack}
 use Rattle.bind.specs.FlatList.{flats_from, flats}
 use Rattle.bind.specs.Binding.{named_from, reaches, unreached, turn, along, star_check, empty_check, binding}
 use Rattle.bind.specs.Job.{lists_bound}
@@ -19,8 +19,10 @@ use Rattle.reached.specs.Cases.{Row, rows}
 -- THEOREM: every row is what the definitions answer, whatever the record of the def
 pub corner_cases : (def : Node)
     → map (λ (r : Row). lists_bound def r.params r.arguments) rows ≡ map (λ (r : Row). r.shown) rows
-unfolding same has_name first_same repeats advance step finish run slash_from start unpack counted_of callSame callName
-    callRepeats check callAdvance callRun callUnpack flats_from flats named_from reaches unreached turn along star_check
+unfolding same has_name first_same repeats advance step finish run slash_from start unpack counted_of call_same
+    call_name
+    call_repeats check call_advance call_run call_unpack flats_from flats named_from reaches unreached turn along
+    star_check
     empty_check binding lists_bound limited
 corner_cases def = refl
 

@@ -25,7 +25,7 @@ use Rattle.table.proofs.Carried.{Before}
 use Rattle.table.proofs.Checking.{Clean, accepted_clean}
 use Rattle.table.proofs.Entering.{entry_sound}
 use Rattle.table.proofs.Filed.{Told, Filed, told_at, files_told, tree_filed, fits_filed, not_root}
-use Rattle.deflist.specs.Written.{Param, written, node_in as paramNode, kind_in as paramKind}
+use Rattle.deflist.specs.Written.{Param, written, node_in as param_node, kind_in as param_kind}
 use Rattle.deflist.specs.Unpack as outcome
 use Rattle.deflist.specs.Limited.{limited}
 use Rattle.deflist.specs.Unpack.{next_state, mode_of, first_slash, positional_only, first_state}
@@ -144,7 +144,7 @@ module _ (t : List ℕ) (call def : ℕ) where
       go true rest = of_def_lem empty_parameter _ (told_at (Filed t def) empty_parameter p.node h.0) (inr refl)
       go false rest = rest
 
-  flats_more : (p : Param) (ms : List ℕ) (fs : List FlatParam) → Filed t def (paramNode p) → Flats fs
+  flats_more : (p : Param) (ms : List ℕ) (fs : List FlatParam) → Filed t def (param_node p) → Flats fs
       → Flats (map (flat_param p) ms ++ fs)
   flats_more p [] fs here h = h
   flats_more p (m ∷ ms) fs here h = (here, flats_more p ms fs here h)
@@ -153,8 +153,8 @@ module _ (t : List ℕ) (call def : ℕ) where
   unfolding flats_from
   flats_from_lem s [] h = tt
   flats_from_lem s (p ∷ ps) h =
-      flats_more p (mode_of s (paramKind p)) (flats_from (next_state s (paramKind p)) ps) h.0
-      (flats_from_lem (next_state s (paramKind p)) ps h.1)
+      flats_more p (mode_of s (param_kind p)) (flats_from (next_state s (param_kind p)) ps) h.0
+      (flats_from_lem (next_state s (param_kind p)) ps h.1)
 
   flats_all : (l : List Param) → params.AllOf (Filed t def) l → Flats (flats l)
   unfolding flats

@@ -156,7 +156,8 @@ unfolding star_check
 bound_star [] = tt
 bound_star (a ∷ qs) = go (is_star (kind_in a)) (bound_star qs)
   where
-    go : (b : Bool) → Bound (star_check qs) → Bound (if' b (λ _. refused_at star_argument (node_in a)) (λ _. star_check qs))
+    go : (b : Bool) → Bound (star_check qs)
+        → Bound (if' b (λ _. refused_at star_argument (node_in a)) (λ _. star_check qs))
     go true rest = (omega arith, omega arith)
     go false rest = rest
 

@@ -33,7 +33,8 @@ rising_more i n a qs at h r = record { least = least; rises = rises }
 
     rises : (j l : ℕ) (b c : Argument) → j < l → IsAt (a ∷ qs) j b → IsAt (a ∷ qs) l c → (node_in b).at < (node_in c).at
     rises zero zero b c g e f = absurd (omega arith)
-    rises zero (suc l) b c g e f = let same : (node_in a).at ≡ (node_in b).at = ap (λ (x : Argument). (node_in x).at) e in
+    rises zero (suc l) b c g e f = let same : (node_in a).at
+        ≡ (node_in b).at = ap (λ (x : Argument). (node_in x).at) e in
         omega (arith, r.least l c f)
     rises (suc j) zero b c g e f = absurd (omega arith)
     rises (suc j) (suc l) b c g e f = r.rises j l b c (omega arith) e f

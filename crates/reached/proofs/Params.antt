@@ -44,6 +44,7 @@ there (x ∷ l) zero h = (x, refl)
 there (x ∷ l) (suc i) h = there l i (omega arith)
 
 pub within : {A : Type 0} (l : List A) (i : ℕ) (x : A) → IsAt l i x → i < length l
+within {A = A} [] i x e = elim e [ ]
 within (y ∷ l) zero x e = omega arith
 within (y ∷ l) (suc i) x e = omega (arith, within l i x e)
 
@@ -51,12 +52,14 @@ pub moved : {A : Type 0} (l : List A) (i j : ℕ) (x : A) → i ≡ j → IsAt l
 moved l i j x e at = rw e at at
 
 pub same_at : {A : Type 0} (l : List A) (i : ℕ) (x y : A) → IsAt l i x → IsAt l i y → x ≡ y
+same_at {A = A} [] i x y e f = elim e [ ]
 same_at (z ∷ l) zero x y e f = sym e ∙ f
 same_at (z ∷ l) (suc i) x y e f = same_at l i x y e f
 
 -- the mode of a flat parameter is among the modes
 mode_in_lem : (fs : List FlatParam) (i : ℕ) (p : FlatParam) → IsAt fs i p
     → p.mode ≡ get_or (map (λ (p : FlatParam). p.mode) fs) i 0
+mode_in_lem [] i p e = elim e [ ]
 mode_in_lem (q ∷ fs) zero p e = ap (λ (x : FlatParam). x.mode) (sym e)
 mode_in_lem (q ∷ fs) (suc i) p e = mode_in_lem fs i p e
 
@@ -197,6 +200,7 @@ flat_names s (kwargs r n ∷ l) = ap (λ (x : List Name). n ∷ x) (flat_names S
 
 name_in_lem : (fs : List FlatParam) (i : ℕ) (p : FlatParam) → IsAt fs i p
     → get_or (map (λ (p : FlatParam). p.name) fs) i [] ≡ p.name
+name_in_lem [] i p e = elim e [ ]
 name_in_lem (q ∷ fs) zero p e = ap (λ (x : FlatParam). x.name) e
 name_in_lem (q ∷ fs) (suc i) p e = name_in_lem fs i p e
 
@@ -281,6 +285,7 @@ name_found (p ∷ fs) x k i e = go (called_by_name p.mode) (same p.name x) refl 
 pub name_missed : (fs : List FlatParam) (x : Name) (k : ℕ) → named_from k x fs ≡ Nothing → (i : ℕ) (p : FlatParam)
     → IsAt fs i p → CanBeNamed p → p.name ≡ x → ⊥
 unfolding named_from
+name_missed [] x k e i p at c n = elim at [ ]
 name_missed (q ∷ fs) x k e zero p at c n =
     let test : (called_by_name q.mode && same q.name x) ≡ true = rw (
       ap (λ (y : FlatParam). called_by_name y.mode) at ∙ called p c,

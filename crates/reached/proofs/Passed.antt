@@ -78,7 +78,8 @@ module _ (t ns : List ℕ) (call def : ℕ) (list : List ℕ) where
     empties : List ℕ
     no_empty : empty_check 0 fs ws ≡ accepted empties
 
-  bound : (c : Counts) {ws : List ℕ} → binding (counted_of c) fs (no_words (counted_of c) qs) qs ≡ accepted ws → Bound c ws
+  bound : (c : Counts) {ws : List ℕ} → binding (counted_of c) fs (no_words (counted_of c) qs) qs ≡ accepted ws
+      → Bound c ws
   unfolding binding
   bound c {ws} b =
       let star = passed_both (star_check qs) _ b in

@@ -33,7 +33,7 @@ use Rattle.bind.specs.FlatList.{FlatParam}
 use Rattle.bind.specs.Binding.{named_from, by_place, by_name, reaches, empty_check}
 use Rattle.bind.specs.Job.{arguments_at, bind_of, list_after}
 use Rattle.bind.specs.declared.Reach.{Reach}
-use Rattle.bind.specs.declared.Reach.TheVariants.{Fills, Joins}
+use Rattle.bind.specs.declared.Reach.TheVariants.{Fills, Joins, Nowhere}
 use Rattle.reached.specs.Said.{IsAt, Ordinary, CanBeNamed, ByPlace, Starred, flats_at, parameter_word, argument_word}
 use Rattle.reached.proofs.Walk.{Index, Filler, Nodes, was_empty, once, comes_from}
 use Rattle.reached.proofs.Params.{within, same_at, there, mode_at_lem, name_missed, one_name}
@@ -116,6 +116,7 @@ module _ (t names : List ℕ) (call def : ℕ) (list : List ℕ) {vs : List ℕ}
     where
       go : (r : Reach) → reaches d fs k a ≡ r → Index r (own k)
           → Lands (reaches d fs k a) (own k)
+      go Nowhere e w = elim w [ ]
       go (Fills i) e w = inl (e ∙ ap Fills (sym w))
       go (Joins i) e w = inr (e ∙ ap Joins (sym w))
 
@@ -335,6 +336,7 @@ module _ (t names : List ℕ) (call def : ℕ) (list : List ℕ) {vs : List ℕ}
   never_empty : (k : ℕ) (l : List FlatParam) (us : List ℕ) {ws : List ℕ} → empty_check k l us ≡ accepted ws → (i : ℕ)
       (p : FlatParam) → IsAt l i p → p.default ≡ false → get_or us (k + i) 0 ≡ 0 → ⊥
   unfolding empty_check
+  never_empty k [] us {ws = ws} e i p sits n z = elim sits [ ]
   never_empty k (q ∷ l) us e zero p sits n z =
       let here : k + 0 ≡ k = omega arith in
       let test : (not q.default && eqb (get_or us k 0) 0) ≡ true = rw (
@@ -374,7 +376,8 @@ module _ (t names : List ℕ) (call def : ℕ) (list : List ℕ) {vs : List ℕ}
 
 -- "with `**kwargs` 82 never arises"
 pub no_unknown_with_kwargs : (t names : List ℕ) (call def room : ℕ) {vs : List ℕ}
-    → bind_of t names call def room ≡ refused unknown_named vs → (i : ℕ) (p : FlatParam) → IsAt (flats_at t names def) i p
+    → bind_of t names call def room ≡ refused unknown_named vs → (i : ℕ) (p : FlatParam)
+    → IsAt (flats_at t names def) i p
     → p.mode ≡ mode_kwargs → ⊥
 no_unknown_with_kwargs = unknown_without_kwargs
 

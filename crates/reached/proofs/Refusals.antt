@@ -60,7 +60,8 @@ star_number (named r x ∷ l) n e = star_number l n e
 star_number (args r ∷ l) n e = cc
 star_number (kwargs r ∷ l) n e = cc
 
-pub empty_number : (k : ℕ) (fs : List FlatParam) (us : List ℕ) (n : ℕ) {vs : List ℕ} → empty_check k fs us ≡ refused n vs
+pub empty_number : (k : ℕ) (fs : List FlatParam) (us : List ℕ) (n : ℕ) {vs : List ℕ}
+    → empty_check k fs us ≡ refused n vs
     → n ≡ 84
 unfolding empty_check
 empty_number k [] us n e = never (cc)
@@ -102,7 +103,8 @@ module _ (t ns : List ℕ) (call def : ℕ) where
   late_lists n {vs} low (outcome.accepted c) u early b = go (either (outcome_answer (calling.unpack qs)) _ b)
     where
       go : OneRefuses (outcome_answer (calling.unpack qs))
-          (λ _. binding (counted_of c) (flats_at t ns def) (no_words (counted_of c) qs) qs) n vs → Late t ns call def n vs
+          (λ _. binding (counted_of c) (flats_at t ns def) (no_words (counted_of c) qs) qs) n vs
+          → Late t ns call def n vs
       go (inl y) = absurd (not_early (outcome_answer (calling.unpack qs)) n (early_call qs) y low)
       go (inr (values, (ordered, refuses))) = record {
         counts = c;

@@ -52,6 +52,7 @@ use Rattle.reached.proofs.Stops.{Why, stop_at}
 star_none : (qs : List Argument) {us : List ℕ} → star_check qs ≡ accepted us → (k : ℕ) (a : Argument) → IsAt qs k a
     → is_star (kind_in a) ≡ true → ⊥
 unfolding star_check
+star_none [] {us = us} e k a at s = elim at [ ]
 star_none (b ∷ qs) {us} e zero a at s =
     let test : is_star (kind_in b) ≡ true = ap (λ (x : Argument). is_star (kind_in x)) at ∙ s in
     let hit : refused_at star_argument (node_in b) ≡ accepted us = rw test at e in

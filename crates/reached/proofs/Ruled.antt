@@ -25,7 +25,7 @@ use Rattle.bind.specs.FlatList.{FlatParam}
 use Rattle.bind.specs.Binding.{named_from, reaches}
 use Rattle.bind.specs.Job.{arguments_at, bind_of}
 use Rattle.bind.specs.declared.Reach.{Reach}
-use Rattle.bind.specs.declared.Reach.TheVariants.{Fills, Joins}
+use Rattle.bind.specs.declared.Reach.TheVariants.{Fills, Joins, Nowhere}
 use Rattle.reached.specs.Said.{IsAt, flats_at, parameter_word, argument_word}
 use Rattle.reached.specs.Rules.{Named, Star, Placed, Rules}
 use Rattle.reached.proofs.Walk.{Index}
@@ -81,6 +81,7 @@ module _ (t names : List ℕ) (call def : ℕ) (list : List ℕ) {vs : List ℕ}
   places k r at = go (reaches d fs k (positional r)) refl (word k (positional r) at)
     where
       go : (x : Reach) → reaches d fs k (positional r) ≡ x → Index x (own k) → Placed fs k ⊎ Star fs mode_args
+      go Nowhere e w = elim w [ ]
       go (Fills i) e w = inl (reaching.placed_by ps c pass.outcome k i r e).1
       go (Joins i) e w =
           let s = reaching.args_sits ps c pass.outcome i (reaching.place_joined ps c pass.outcome k i e).1 in
@@ -93,6 +94,7 @@ module _ (t names : List ℕ) (call def : ℕ) (list : List ℕ) {vs : List ℕ}
     where
       go : (y : Reach) → reaches d fs k (named r x) ≡ y → Index y (own k)
           → ((i : ℕ) × Named fs x i) ⊎ Star fs mode_kwargs
+      go Nowhere e w = elim w [ ]
       go (Fills i) e w = inl (i, reaching.named_by ps c pass.outcome k i r x e)
       go (Joins i) e w =
           let j = reaching.name_joined ps c pass.outcome (named_from 0 x fs) i e in
@@ -127,6 +129,7 @@ module _ (t names : List ℕ) (call def : ℕ) (list : List ℕ) {vs : List ℕ}
     where
       by_reach : (k : ℕ) (a : Argument) → IsAt qs k a → own k ≡ i → taken i ≡ (node_in a).at → (y : Reach)
           → reaches d fs k a ≡ y → Index y (own k) → HasArgument qs i p
+      by_reach k a at o e Nowhere f w = elim w [ ]
       by_reach k a at o e (Fills j) f w =
           reaching.has_argument ps c pass.outcome qs k a i p at (f ∙ ap Fills (sym w ∙ o)) sits
       by_reach k a at o e (Joins j) f w =

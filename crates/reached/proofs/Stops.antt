@@ -29,7 +29,7 @@ use Rattle.arguments.specs.Written.{Argument, positional, named, args, kwargs, n
 use Rattle.arguments.specs.Call as calling
 use Rattle.arguments.specs.Call.{Outcome}
 use Rattle.arguments.specs.Job.{outcome_answer}
-use Rattle.arguments.specs.Accepted.{kinds_of, one, in_order, Ordered}
+use Rattle.arguments.specs.Accepted.{kinds_of, one, Ordered}
 use Rattle.arguments.specs.declared.Kind.{Kind}
 use Rattle.arguments.specs.declared.Kind.TheVariants.{Positional, Named, Args, KwArgs}
 use Rattle.arguments.specs.declared.CallArgs.{CallArgs}
@@ -247,6 +247,9 @@ NoPositional (k ∷ ks) = (k ≡ Positional → ⊥) × NoPositional ks
 
 positional_early : (p : ℕ) (ks : List Kind) (qs : List Argument) → NoPositional ks
     → kinds_of qs ≡ replicate p Positional ++ ks → (j : ℕ) (r : Node) → IsAt qs j (positional r) → j < p
+positional_early zero [] [] f e j r at = elim at [ ]
+positional_early zero (k ∷ ks) [] f e j r at = elim at [ ]
+positional_early (suc p) ks [] f e j r at = elim at [ ]
 positional_early zero [] (q ∷ qs) f e j r at = never (cc)
 positional_early zero (k ∷ ks) (q ∷ qs) f e zero r at =
     let here : kind_in q ≡ k = cc in
@@ -261,6 +264,7 @@ positional_early (suc p) ks (q ∷ qs) f e (suc j) r at =
 
 named_late : (p : ℕ) (ks : List Kind) (qs : List Argument) → kinds_of qs ≡ replicate p Positional ++ ks → (j : ℕ)
     (r : Node) (x : Name) → IsAt qs j (named r x) → p ≤ j
+named_late (suc p) ks [] e j r x at = elim at [ ]
 named_late zero ks qs e j r x at = omega arith
 named_late (suc p) ks (q ∷ qs) e zero r x at =
     let here : kind_in q ≡ Positional = cc in
@@ -326,7 +330,8 @@ module _ (t ns : List ℕ) (call def room : ℕ) where
     stop = stop_at flat d fs small 0 none_yet qs n vs w.stops
 
     -- a named argument that reaches nothing: there is no `**kwargs`
-    no_kwargs_lem : (k : ℕ) (a : Argument) → reaches d fs k a ≡ Nowhere → unknown_named ≡ unreached (kind_in a) → (i : ℕ)
+    no_kwargs_lem : (k : ℕ) (a : Argument) → reaches d fs k a ≡ Nowhere → unknown_named ≡ unreached (kind_in a)
+        → (i : ℕ)
         (p : FlatParam) → IsAt fs i p → p.mode ≡ mode_kwargs → ⊥
     unfolding reaches unreached counted_of
     no_kwargs_lem k (positional r) e u i p sits m = absurd (omega arith)

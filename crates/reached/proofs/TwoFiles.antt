@@ -19,9 +19,9 @@ use Rattle.deflist.specs.Unpack.{slash_from, has_name, first_same, repeats, adva
 use Rattle.deflist.specs.Limited.{limited}
 use Rattle.parameters.specs.Indices.{counted_of}
 use Rattle.parameters.specs.Params.{list_of}
-use Rattle.arguments.specs.Written.{kind_at as argumentKind, argument_of, arguments_in}
-use Rattle.arguments.specs.Call.{has_name as argumentHas, first_same as firstArgument, repeats as repeatsName}
-use Rattle.arguments.specs.Call.{check as checkArgument, advance as advanceCall, run as runCall, unpack as unpackCall}
+use Rattle.arguments.specs.Written.{kind_at as argument_kind, argument_of, arguments_in}
+use Rattle.arguments.specs.Call.{has_name as argument_has, first_same as first_argument, repeats as repeats_name}
+use Rattle.arguments.specs.Call.{check as check_argument, advance as advance_call, run as run_call, unpack as unpack_call}
 use Rattle.bind.specs.FlatList.{flats_from, flats}
 use Rattle.bind.specs.Binding.{along, star_check, empty_check, binding}
 use Rattle.bind.specs.Job.{is_def, arguments_at, lists_bound, entry_of, words_of, bind_of}
@@ -29,11 +29,16 @@ use Rattle.reached.specs.TwoFiles.{table, names}
 
 pub two_files : (bind_of table names 5 1 4 ≡ refused empty_parameter (2 ∷ 6 ∷ 7 ∷ 1 ∷ []))
     × (bind_of table names 8 1 4 ≡ refused repeated_named (12 ∷ 11 ∷ 12 ∷ 2 ∷ 10 ∷ []))
-unfolding bind_of words_of entry_of lists_bound arguments_at is_def binding along star_check empty_check flats flats_from
-    counted_of list_of written params_in param_of kind_at slash_from has_name first_same repeats advance step finish run start
-    unpack limited argumentKind argument_of arguments_in argumentHas firstArgument repeatsName checkArgument advanceCall
-    runCall unpackCall entry_check wants node_fits stretch_of check_of length_sound field size_of kids_of rest_of forest_in
-    forest count count_tree name_of same kind_in kind_of name_sound span_sound source_sound file_sound ends_by top_of files_of
+unfolding bind_of words_of entry_of lists_bound arguments_at is_def binding along star_check empty_check flats
+    flats_from
+    counted_of list_of written params_in param_of kind_at slash_from has_name first_same repeats advance step finish run
+    start
+    unpack limited argument_kind argument_of arguments_in argument_has first_argument repeats_name check_argument
+    advance_call
+    run_call unpack_call entry_check wants node_fits stretch_of check_of length_sound field size_of kids_of rest_of
+    forest_in
+    forest count count_tree name_of same kind_in kind_of name_sound span_sound source_sound file_sound ends_by top_of
+    files_of
     fields_sound whole_trees classes permitted wanted permits kids_sound sound_node sound_at root_sound context_of
     record_sound first_false first_unsound class_weight weight first_deep deep_in
 two_files = (refl, refl)

@@ -54,18 +54,21 @@ took place Nowhere a ws vs e = never_passed e
 -- the words that a turn leaves, and those that it writes
 module _ (place : ℕ) (a : Argument) (ws vs : List ℕ) where
   took_long : (r : Reach) → Took place a ws vs r → length vs ≡ length ws
+  took_long Nowhere v = elim v [ ]
   took_long (Fills i) (e, v) = ap length v ∙ length-set (set ws i (node_in a).at) place i
       ∙ length-set ws i (node_in a).at
   took_long (Joins i) v = ap length v ∙ length-set ws place i
 
   pub took_other : (r : Reach) (j : ℕ) → Took place a ws vs r → (j ≡ place → ⊥) → (r ≡ Fills j → ⊥)
       → get_or vs j 0 ≡ get_or ws j 0
+  took_other Nowhere j v n m = elim v [ ]
   took_other (Fills i) j (e, v) n m = ap (λ (l : List ℕ). get_or l j 0) v
       ∙ get_or-set_other (set ws i (node_in a).at) place j i 0 n
       ∙ get_or-set_other ws i j (node_in a).at 0 (λ h. m (ap Fills (sym h)))
   took_other (Joins i) j v n m = ap (λ (l : List ℕ). get_or l j 0) v ∙ get_or-set_other ws place j i 0 n
 
   took_place : (r : Reach) → Took place a ws vs r → place < length ws → Index r (get_or vs place 0)
+  took_place Nowhere v h = elim v [ ]
   took_place (Fills i) (e, v) h = ap (λ (l : List ℕ). get_or l place 0) v
       ∙ get_or-set_same (set ws i (node_in a).at) place i 0 (omega (arith, length-set ws i (node_in a).at))
   took_place (Joins i) v h = ap (λ (l : List ℕ). get_or l place 0) v ∙ get_or-set_same ws place i 0 h
@@ -142,6 +145,7 @@ module _ (flat : ℕ) (d : DefParamIndices) (fs : List FlatParam)
   pub own_word : (k : ℕ) (ws : List ℕ) (qs : List Argument) (us : List ℕ) → along flat d fs k ws qs ≡ accepted us
       → flat + k + length qs ≤ length ws → (j : ℕ) (a : Argument) → IsAt qs j a
       → Index (reaches d fs (k + j) a) (get_or us (flat + (k + j)) 0)
+  own_word k ws [] us e long j a at = elim at [ ]
   own_word k ws (b ∷ qs) us e long zero a at =
       let s = step k ws b qs us e in
       let here : k + 0 ≡ k = omega arith in
@@ -187,6 +191,7 @@ module _ (flat : ℕ) (d : DefParamIndices) (fs : List FlatParam)
   pub was_empty : (k : ℕ) (ws : List ℕ) (qs : List Argument) (us : List ℕ) → along flat d fs k ws qs ≡ accepted us
       → Nodes qs → flat + k + length qs ≤ length ws → (j : ℕ) (a : Argument) (i : ℕ) → IsAt qs j a
       → reaches d fs (k + j) a ≡ Fills i → (get_or ws i 0 ≡ 0) × (get_or us i 0 ≡ (node_in a).at)
+  was_empty k ws [] us e nodes long j a i at r = elim at [ ]
   was_empty k ws (b ∷ qs) us e nodes long zero a i at r =
       let s = step k ws b qs us e in
       let here : k + 0 ≡ k = omega arith in
@@ -215,6 +220,7 @@ module _ (flat : ℕ) (d : DefParamIndices) (fs : List FlatParam)
   pub once : (k : ℕ) (ws : List ℕ) (qs : List Argument) (us : List ℕ) → along flat d fs k ws qs ≡ accepted us
       → Nodes qs → flat + k + length qs ≤ length ws → (j l : ℕ) (a b : Argument) (i : ℕ) → IsAt qs j a → IsAt qs l b
       → reaches d fs (k + j) a ≡ Fills i → reaches d fs (k + l) b ≡ Fills i → j ≡ l
+  once k ws [] us e nodes long j l a b i at bt r q = elim at [ ]
   once k ws (c ∷ qs) us e nodes long zero zero a b i at bt r q = refl
   once k ws (c ∷ qs) us e nodes long zero (suc l) a b i at bt r q =
       let here : k + 0 ≡ k = omega arith in

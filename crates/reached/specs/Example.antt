@@ -58,7 +58,13 @@ params =
       mode = mode_args;
     }
     ∷ record { node = record_at 7 kind_normal 0 1 6 24 25 1 1; name = 99 ∷ []; default = false; mode = mode_name_only }
-    ∷ record { node = record_at 8 kind_kw_args_param 0 1 7 27 30 1 1; name = 107 ∷ []; default = true; mode = mode_kwargs }
+    ∷ record {
+      node = record_at 8 kind_kw_args_param 0 1 7 27 30 1 1;
+      name = 107
+          ∷ [];
+      default = true;
+      mode = mode_kwargs;
+    }
     ∷ []
 
 -- the arguments

@@ -3,10 +3,11 @@
 ghost use Rattle.std.specs.Prelude.{◌<◌};
 
 use forest::names;
+use std::io::Read;
 
 // The result of a request: there is none left, or the place where it is counted and whether the answer is the recorded
 // one.
-#[derive(Drop)]
+#[derive(Clone, Copy)]
 pub(crate) enum Replayed {
     End,
     Same(usize),
@@ -16,7 +17,7 @@ pub(crate) enum Replayed {
 // The head of a request: the job, the lengths of its parts, the node, the number of the answer, the number of words,
 // and whether the crate (1) or the model alone (0) gave the answer. `second` is the node of the Def for a binding,
 // the length of the second buffer for a reader, and the edition for a type job, an audit or a writer.
-#[derive(Drop)]
+#[derive(Clone, Copy)]
 struct Asked {
     job: usize,
     dialect: usize,
@@ -47,6 +48,9 @@ const READ: usize = 11;
 const FSTRING_WRITE: usize = 13;
 
 const FSTRING_READ: usize = 14;
+
+// The largest number of bytes after the head of a request.
+const MOST_BODY: usize = 4096;
 
 // The value of each byte of the buffers before a job.
 const FILL: u8 = 0xEE;
@@ -101,11 +105,11 @@ fn size_of(a: Asked) -> usize {
 }
 
 // Reads the next `len` bytes of the file to the front of a buffer. Returns false if there are fewer.
-fn filled(fd: i32, space: &mut [u8], len: usize) -> bool {
+fn filled(input: &mut impl Read, space: &mut [u8], len: usize) -> bool {
     if space.len() < len {
         return false;
     }
-    io::read_full(fd, &mut space[0..len]) == len
+    input.read_exact(&mut space[0..len]).is_ok()
 }
 
 // The first `len` bytes of a buffer, and the bytes after them; none if the buffer is shorter.
@@ -386,15 +390,15 @@ fn place_of(job: usize, judge: usize) -> usize {
 }
 
 // The next request of the file.
-pub(crate) fn one(fd: i32) -> Replayed {
+pub(crate) fn one(input: &mut impl Read) -> Replayed {
     let mut head = [0u8; 20];
-    if !filled(fd, &mut head, 20) {
+    if !filled(input, &mut head, 20) {
         return Replayed::End;
     }
     let a = head_of(&head);
     let size = size_of(a);
-    let mut space = io::buffer();
-    if !filled(fd, &mut space, size) {
+    let mut space = [0u8; MOST_BODY];
+    if !filled(input, &mut space, size) {
         return Replayed::End;
     }
     let place = place_of(a.job, a.judge);

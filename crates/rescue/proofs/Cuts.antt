@@ -92,7 +92,8 @@ module _ (k : ℕ) {t : List ℕ} (r : Rooted t) where
   -- LAW: in the root only the size changes
   pub cut_byte : (i : ℕ) → i < 24 * cut_nodes → (i ≡ 16 → ⊥) → (i ≡ 17 → ⊥) → get_or (cut_to k t) i 0 ≡ get_or t i 0
   unfolding cut_to
-  cut_byte i h low high = byte_resized cut_nodes (take (24 * cut_nodes) t) i low high ∙ get_or-take (24 * cut_nodes) t i 0 h
+  cut_byte i h low high = byte_resized cut_nodes (take (24 * cut_nodes) t) i low high
+      ∙ get_or-take (24 * cut_nodes) t i 0 h
 
   cut_field : (w at : ℕ) → (at + w ≤ 16) ⊎ (18 ≤ at) → at + w ≤ 24 → field w (cut_to k t) at ≡ field w t at
   cut_field w at apart fits = field_same w (cut_to k t) t at (λ i h g. ⊎_elim

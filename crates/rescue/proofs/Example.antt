@@ -58,11 +58,15 @@ old_file = holding (record_of kind_statements 0 2 0 ++ record_of kind_break 0 1 
 -- what computes a file and its rescue: to unfold this is to unfold all of these
 unfoldable rescuing : Bool
 unfolding field bytes_of weighed sum_of before_sum block_of zeros examine judge blocks_for blocks_of run_of judge_blocks
-    judge_run good_blocks contents content_in content_of header_of file_of dialect_in edition_in edition_held rules_of header_at
-    content_at counts_fit blocks_check read_check size_of kids_of rest_of forest_in forest roots firsts count count_tree same
-    kind_in kind_of name_sound span_sound source_sound fields_sound whole_trees classes permitted wanted permits kids_sound
+    judge_run good_blocks contents content_in content_of header_of file_of dialect_in edition_in edition_held rules_of
+    header_at
+    content_at counts_fit blocks_check read_check size_of kids_of rest_of forest_in forest roots firsts count count_tree
+    same
+    kind_in kind_of name_sound span_sound source_sound fields_sound whole_trees classes permitted wanted permits
+    kids_sound
     sound_node sound_at root_sound file_sound ends_by top_of files_of context_of record_sound first_false first_unsound
-    length_sound check_of given_of class_weight weight first_deep deep_in head_good blocks_pass good_table resized cut_to largest
+    length_sound check_of given_of class_weight weight first_deep deep_in head_good blocks_pass good_table resized
+    cut_to largest
     children_kept largest_cut table_kept statements_of rescue_of within valid_bytes from_bytes
 rescuing = true
 

@@ -193,7 +193,8 @@ module _ (bs : List ℕ) (h : Heading) (h-is : h ≡ header_at bs) (z : Judged)
         head_dialect e = rw (← ds-is, ← x-is, e, ← h-is, ← z-is, z-good, ← f-is, f-yes) refl
 
         -- y is the answer of `edition_held`
-        module _ {d : Dialect} (x-good : x ≡ Valid d) {s : Stated} (s-is : s ≡ (content_at bs).edition) {y : EditionRead}
+        module _ {d : Dialect} (x-good : x ≡ Valid d) {s : Stated}
+            (s-is : s ≡ (content_at bs).edition) {y : EditionRead}
             (y-is : y ≡ edition_held ds (stated_bytes s)) where
           edition_so : edition_read (content_at bs) ≡ y
           edition_so = rw (y-is, ds-is, s-is) refl

@@ -6,7 +6,7 @@ use mathlib.Core.Path.{◌≡◌, refl, sym, ap, ◌∙◌}
 use mathlib.Core.Bool.{Bool, true, false}
 use mathlib.Core.Logic.{⊎_elim}
 use mathlib.Core.List.{List, [], ◌∷◌, ◌++◌}
-use Prim.Native.Nat.{ℕ, ◌+◌, ◌-◌, ◌/◌, ◌<◌, ◌≤◌}
+use Prim.Native.Nat.{ℕ, ◌-◌, ◌/◌, ◌<◌, ◌≤◌}
 use native.Mathlib.Omega.{arith}
 use lib.ListN.{length, get_or, take, drop, length-take}
 use lib.Seq.{take_at, drop_at}
@@ -24,7 +24,7 @@ use Rattle.table.specs.declared.Refusal.TheVariants.{Bare}
 use Rattle.table.proofs.Answers.{passed_both, never_passed}
 use Rattle.table.proofs.Checking.{accepted_clean}
 use Rattle.blocks.specs.Block.{demand, judge}
-use Rattle.blocks.proofs.Blocks.{passes as passed-block}
+use Rattle.blocks.proofs.Blocks.{passes as passed_block}
 use Rattle.tablefile.specs.File.{Content, file_of}
 use Rattle.tablefile.specs.Reading.{header_at, used_of, content_at, front_check, sound_check, read_check}
 use Rattle.tablefile.specs.Loading.{loaded_of}
@@ -321,7 +321,7 @@ module _ (file : List ℕ) (e : read_check file ≡ accepted []) where
   read_head =
       let known = sound_known (content_at file) (read_is_sound file e) in
       rw (
-        passed-block 0 (used_of (header_at file)) file fronted.header,
+        passed_block 0 (used_of (header_at file)) file fronted.header,
         small_fits fronted.counts,
         known.decoded,
         known.held,
@@ -344,7 +344,8 @@ module _ (file : List ℕ) (e : read_check file ≡ accepted []) where
       rw (read_bytes, read_kept, dropped, after) refl
 
   pub read_rescued : (room : ℕ) → length file ≤ room → rescue_of file room
-      ≡ accepted (length file ∷ statements_of (content_at file).table ∷ length (content_at file).table / 24 ∷ 0 ∷ 0 ∷ [])
+      ≡ accepted (length file ∷ statements_of (content_at file).table ∷ length (content_at file).table / 24 ∷ 0 ∷ 0
+      ∷ [])
   read_rescued room fits =
       said file room read_head
       (omega (arith, ap length read_kept, table_length_lem file fronted, fronted.counts.some))

@@ -39,4 +39,5 @@ unfoldable pub good_table : List ℕ → List ℕ
 good_table bs =
     let total = record_bytes * (header_at bs).nodes in
     let first = (header_at bs).first in
-    take (content_bytes * good_blocks (blocks_for total) first total (drop (block_bytes * first) bs)) (content_at bs).table
+    take (content_bytes * good_blocks (blocks_for total) first total (drop (block_bytes * first) bs))
+    (content_at bs).table

@@ -1,5 +1,7 @@
 // The rescue of a damaged table file. If the blocks that the header describes pass, it keeps them all, else the largest
 // number of the root's first children that lie in good blocks, with names, dialect and edition whole.
+#![tactic(auto)]
+
 ghost use Rattle.std.specs.Prelude.{◌≡◌, ◌&&◌, [], ◌∷◌, ◌*◌, ◌-◌, ◌/◌, ◌≤◌, ◌<◌, leb, length};
 ghost use Rattle.fields.specs.Over.{over};
 ghost use Rattle.forest.specs.Forest.{record_bytes, forest, roots};
@@ -23,7 +25,7 @@ use tablefile::Heading;
 
 // The counts of a rescue: the bytes written, the statements and nodes kept, the nodes dropped of the header's number,
 // and the bytes after the header's last block.
-#[derive(Drop)]
+#[derive(Clone, Copy)]
 pub struct Kept {
     pub bytes: u32,
     pub statements: u32,
@@ -33,7 +35,7 @@ pub struct Kept {
 }
 
 // The answer of the job: what is kept, or why nothing is.
-#[derive(Drop)]
+#[derive(Clone, Copy)]
 pub enum Rescued {
     Accepted(Kept),
     Refused(Refusal),

@@ -79,7 +79,8 @@ module _ (edition : Edition) (names : L.List ℕ) (i j : ℕ) (bs : L.List ℕ)
     where
       go : (b : Bool) → Passes (if' b (λ _. unpack_each arguments_only edition names (forest (i + 1) (kids_of bs)))
           (λ _. «unpack» edition names (tree_of i bs)))
-          → Proper (if' b (λ _. shape_at (node_of j bs) list_shape ∷ shapes_each arguments_only (forest (j + 1) (kids_of bs)))
+          → Proper (if' b (λ _. shape_at (node_of j bs) list_shape
+          ∷ shapes_each arguments_only (forest (j + 1) (kids_of bs)))
           (λ _. shapes_of (tree_of j bs)))
       go true q = proper_one (node_of j bs) list_shape _ (omega arith) (ks arguments_only (j + 1) q)
       go false q = type_proper q

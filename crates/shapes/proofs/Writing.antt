@@ -46,7 +46,8 @@ module _ (i : ℕ) (t s : List ℕ) (how : How) {rule : How} {k : ℕ} (k_is : k
   unfolding shapes_of
   chosen = rw (rule-is, k_is) (by_rule (node_of 0 t).kind [] _ _ how)
 
-  as_chosen : {h : How} → rule ≡ h → written (shapes_child h (tree_of i t)) s ≡ written (shapes_child how (tree_of i t)) s
+  as_chosen : {h : How} → rule ≡ h
+      → written (shapes_child h (tree_of i t)) s ≡ written (shapes_child how (tree_of i t)) s
   as_chosen e = ap (λ (x : How). written (shapes_child x (tree_of i t)) s) (sym e)
       ∙ ap (λ (ss : List Shape). written ss s) chosen
 

@@ -1,4 +1,6 @@
 // The type job: a type is judged, and the shapes of the nodes that are read are written into a buffer.
+#![tactic(auto)]
+
 mod walk;
 
 ghost use Rattle.std.specs.Prelude.{◌≡◌, length};

@@ -51,7 +51,8 @@ pub(crate) fn write(t: &[u8], at: usize, shapes: &mut [u8])
 // again, or a type.
 #[cycle(write_write_argument)]
 fn write_argument(t: &[u8], at: usize, shapes: &mut [u8])
-    requires record_bytes_in_bounds { (record_bytes ≤ length t.now) × (at + length t.now / record_bytes ≤ length shapes.old) }
+    requires record_bytes_in_bounds { (record_bytes ≤ length t.now) ×
+        (at + length t.now / record_bytes ≤ length shapes.old) }
     requires t_value { (node_of 0 t.now).kind ≡ kind_list }
     ensures { shapes.new ≡
         written (shapes_argument (tree_of at t.now)) shapes.old }

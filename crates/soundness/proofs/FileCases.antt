@@ -15,7 +15,9 @@ use Rattle.soundness.specs.FileCases.{Case, file_cases}
 
 -- THEOREM: the first unsound record of each table is the one that its case shows
 pub file_cases_lem : map (λ (c : Case). first_unsound c.table []) file_cases ≡ map (λ (c : Case). c.unsound) file_cases
-unfolding file_cases field size_of kids_of rest_of forest_in forest count same kind_of kind_in file_sound ends_by top_of files_of
-    name_sound span_sound source_sound fields_sound whole_trees classes permitted wanted permits kids_sound sound_node sound_at
+unfolding file_cases field size_of kids_of rest_of forest_in forest count same kind_of kind_in file_sound ends_by top_of
+    files_of
+    name_sound span_sound source_sound fields_sound whole_trees classes permitted wanted permits kids_sound sound_node
+    sound_at
     root_sound context_of record_sound first_false first_unsound
 file_cases_lem = refl

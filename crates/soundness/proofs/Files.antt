@@ -301,7 +301,11 @@ module _ (t names : List ℕ) (e : first_unsound t names ≡ Nothing) where
       go true r = omega (arith, most_number _ _ (rw (files_root t r) at (clean_fits t names e 0 h)))
       go false r = omega (arith, most_number _ _ (rw (files_other t r) at (clean_fits t names e 0 h)))
   top_number (suc k) top h =
-      omega (arith, most_number _ _ (rw (files_top_lem t (suc k) (omega arith) top) at (clean_fits t names e (suc k) h)))
+      omega (
+        arith,
+        most_number _ _
+            (rw (files_top_lem t (suc k) (omega arith) top) at (clean_fits t names e (suc k) h)),
+      )
 
   pub clean_number : (j : ℕ) → j < length t / 24 → (record_at t j).file ≤ 999
   clean_number j h = rw (top_file j h) (top_number (top_of t j) (top_self t j) (omega (arith, top_upto t j)))

@@ -69,7 +69,8 @@ module _ (t names : List ℕ) where
       let covers = sound_covers t root in
       let none = clear_is _
       (clear_sound (λ i. context (length names) any_file) t (omega arith) s.records ∙ s.nodes) in
-      files_clean t names root (none_found_lem (sound_in (λ i. context (length names) any_file) t) (length t / 24) none) files
+      files_clean t names root (none_found_lem (sound_in (λ i. context (length names) any_file) t) (length t / 24) none)
+      files
 
 -- LAW: the index of the first record does not matter to file numbers
 pub files_anywhere : (n i : ℕ) (bs : List ℕ) (j : ℕ) → files_in n (forest i bs) ≡ files_in n (forest j bs)

@@ -166,7 +166,8 @@ module _ (rule : ℕ) where
     unfolding wanted children_of
     later m e = rw e (get_or-append-add (take (fronts_in rule) (front_in rule)) _ m 0)
 
-    wanted_middle : fronts_in rule ≤ j → j < n - backs_in rule → middle_in rule ≡ get_or (wanted (children_of rule) n) j 0
+    wanted_middle : fronts_in rule ≤ j → j < n - backs_in rule
+        → middle_in rule ≡ get_or (wanted (children_of rule) n) j 0
     wanted_middle g l =
         let between-long : length (replicate (between (children_of rule) n) (middle_in rule))
         ≡ between (children_of rule) n = length-replicate {A = ℕ} (between (children_of rule) n)

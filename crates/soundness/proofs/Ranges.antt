@@ -290,7 +290,8 @@ module _ {rule first others : ℕ} (r : Ranges rule first) {t left : List ℕ} {
     class_is enough = class_at_lem rule (length t / 24) j (omega (arith, s.fit.room))
         ∙ class_wanted rule (kids_number t) j (length t / 24) (no_last t r.no_last) enough (fit_index s.fit big)
 
-    lowest_is : w ≡ range_of (class_for (children_of rule) j) + 0x1_0000 * (range_of (class_for (children_of rule) (j + 1))
+    lowest_is : w ≡ range_of (class_for (children_of rule) j) + 0x1_0000 *
+        (range_of (class_for (children_of rule) (j + 1))
         + 0x1_0000 * range_of (class_for (children_of rule) (j + 2))
         + 0x1_0000_0000 * range_of (class_for (children_of rule) (j + 3)))
     unfolding ranges_from

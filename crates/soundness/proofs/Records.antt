@@ -523,7 +523,8 @@ module _ {t : List ℕ} {names first whole i end file : ℕ}
     search_here e = record {
       alone = λ first_is whole_is. judge_here (s.alone first_is whole_is) h turned r-is e;
       table = λ first_is whole_is root ns names_are.
-          record_here t ns refl root (s.table first_is whole_is root ns names_are) h turned (told_of_lem ns names_are) e;
+          record_here t ns refl root (s.table first_is whole_is root ns names_are) h turned
+          (told_of_lem ns names_are) e;
     }
 
     pub search_on : r ≡ true → {next : ℕ} → next ≡ max later whole
@@ -534,7 +535,8 @@ module _ {t : List ℕ} {names first whole i end file : ℕ}
       table = λ first_is whole_is root ns names_are.
           let same : next ≡ later = omega (arith, next_is, whole_is) in
           rw same
-          (record_on t ns refl root (s.table first_is whole_is root ns names_are) h turned (told_of_lem ns names_are) e);
+          (record_on t ns refl root (s.table first_is whole_is root ns names_are) h turned
+          (told_of_lem ns names_are) e);
     }
 
 -- what the two searches find

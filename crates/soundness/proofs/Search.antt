@@ -1,8 +1,8 @@
 -- The first number at which a test fails. A loop that has passed the numbers below i keeps that the search from i on is
 -- the whole search (`Looking`, with `look_start`, `look_on`, `look_here` and `look_end`). The search means what its
--- name says: if it finds none, the test holds everywhere (`none_found_lem`), and the other way round (`all_found`); if it
--- finds k, the test fails at k and holds before it (`found`, the record `First`). The induction is on the count of
--- numbers that are left. Assumes nothing.
+-- name says: if it finds none, the test holds everywhere (`none_found_lem`), and the other way round (`all_found`);
+-- if it finds k, the test fails at k and holds before it (`found`, the record `First`). The induction is on the count
+-- of numbers that are left. Assumes nothing.
 use mathlib.Core.Path.{◌≡◌, refl, sym, ◌∙◌}
 use mathlib.Core.Bool.{Bool, true, false}
 use Prim.Native.Nat.{ℕ, zero, suc, ◌+◌, ◌-◌, ◌<◌, ◌≤◌}

@@ -19,7 +19,6 @@ use Rattle.fields.proofs.Basics.{and_both, and_left, and_right, both_ways, drop_
 use Rattle.fields.specs.Choice.{if'}
 use Rattle.forest.specs.Forest.{Node, size_of, span_of, node_of, kids_of, rest_of, Tree, node, Forest, none, ◌then◌}
 use Rattle.forest.specs.Forest.{forest, count}
-use Rattle.forest.specs.Names.{same}
 use Rattle.forest.specs.declared.Found.{Found}
 use Rattle.forest.specs.declared.Found.TheVariants.{Nothing}
 use Rattle.forest.proofs.Stretch.{node_take, size_take, length_kids, length_rest, forest_none}
@@ -454,7 +453,8 @@ module _ (x : ℕ → Context) (bs : List ℕ) (one : span_of bs ≡ length bs)
   unfolding sound_in sound_at
   nothing_sound clean =
       record_or_none bs (all_none x 0 bs) λ big.
-      let each : (j : ℕ) → j < n → sound_at (x j) j (drop (24 * j) bs) ≡ true = none_found_lem (sound_in x bs) n clean in
+      let each : (j : ℕ) → j < n
+      → sound_at (x j) j (drop (24 * j) bs) ≡ true = none_found_lem (sound_in x bs) n clean in
       let size = node_size (x 0) (node_of 0 bs) (forest 1 (kids_of bs)) (each 0 (omega arith)) in
       let long : length bs ≡ 24 * size_of bs = omega (arith, count_forest 1 (kids_of bs), length_kids bs) in
       let whole : Whole bs 0 n = record {

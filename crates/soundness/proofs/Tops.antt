@@ -1,10 +1,10 @@
--- Which top-level statement a record is in, in steps. `top_of` goes along the index: record i + 1 is in the statement of
--- record i until that ends. So a statement has the records that its size says, and the next one follows (`top_within`,
--- `top_behind`). The loop of code keeps the end and the number of that statement (`After`), and each turn is one case
--- of the definition: within it the record has its number, at its end the record begins the next one (`turn_files`). The
--- end of a root that is no Statements is the table's, which is why the root has to cover it. `top_same` and
--- `files_same` say what `top_of` looks at: the records before i, and of the root not the size, so that a record has the
--- same context in every cut that has it. Assumes nothing.
+-- Which top-level statement a record is in, in steps. `top_of` goes along the index: record i + 1 is in the statement
+-- of record i until that ends. So a statement has the records that its size says, and the next one follows
+-- (`top_within`, `top_behind`). The loop of code keeps the end and the number of that statement (`After`), and each
+-- turn is one case of the definition: within it the record has its number, at its end the record begins the next one
+-- (`turn_files`). The end of a root that is no Statements is the table's, which is why the root has to cover it.
+-- `top_same` and `files_same` say what `top_of` looks at: the records before i, and of the root not the size, so that
+-- a record has the same context in every cut that has it. Assumes nothing.
 use mathlib.Core.Path.{◌≡◌, refl, sym, ap, ◌∙◌}
 use mathlib.Core.Bool.{Bool, true, false, ◌&&◌}
 use mathlib.Core.List.{List}
@@ -269,7 +269,8 @@ top_same t u root (suc i) sizes =
     go zero e = rw root refl
     go (suc k) e = rw (sizes (suc k) (omega arith) (omega (arith, top_upto u i))) refl
 
-module _ (t u : List ℕ) (root : (node_of 0 t).kind ≡ (node_of 0 u).kind) (number : (node_of 0 t).file ≡ (node_of 0 u).file)
+module _ (t u : List ℕ) (root : (node_of 0 t).kind ≡ (node_of 0 u).kind)
+    (number : (node_of 0 t).file ≡ (node_of 0 u).file)
     (i : ℕ) (sizes : (j : ℕ) → 1 ≤ j → j < i → (record_at t j).size ≡ (record_at u j).size)
     (files : (j : ℕ) → 1 ≤ j → j < i → (record_at t j).file ≡ (record_at u j).file) where
   number_same : (k : ℕ) → k < i → (record_at t k).file ≡ (record_at u k).file

@@ -109,7 +109,8 @@ kinds =
     kind kind_return statement 0 no_name (λ d. up_to 1 expression) ∷  -- Return
     kind kind_load statement 0 no_name (λ d. exactly []) ∷  -- Load
     kind kind_other_simple statement 0 no_name (λ d. any expression) ∷  -- other simple
-    kind kind_assign statement 1 no_name (λ d. exactly (one ++ if_detail d 1 1 ++ one)) ∷  -- Assign: target, type, value
+    -- Assign: target, type, value
+    kind kind_assign statement 1 no_name (λ d. exactly (one ++ if_detail d 1 1 ++ one)) ∷
     kind kind_assign_modify statement 1 no_name  -- AssignModify: target, type, value
     (λ d. exactly (one ++ if_detail d 1 1 ++ one)) ∷
     kind kind_tuple expression 0 no_name (λ d. any expression) ∷  -- Tuple

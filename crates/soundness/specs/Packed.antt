@@ -35,7 +35,8 @@ times_of n = if' (eqb n 15) (λ _. any_number) (λ _. if' (eqb n 14) (λ _. even
 
 -- the children that a packed rule permits
 unfoldable pub children_of : ℕ → Children
-children_of r = children (take (fronts_in r) (front_in r)) (times_of (times_in r)) (middle_in r) (take (backs_in r) (back_in r))
+children_of r = children (take (fronts_in r) (front_in r)) (times_of (times_in r)) (middle_in r)
+    (take (backs_in r) (back_in r))
 
 -- the rules that kinds have at a detail from 1 on, by number
 abbrev pub rules : List Children
@@ -53,7 +54,8 @@ rule_of k d = if' (leb d (kind_of k).details) (λ _. (kind_of k).kids d) (λ _. 
 -- the numbers of the others
 unfoldable pub rules_in : ℕ → List Children
 rules_in row =
-    children_of (row / 0x1000 % 0x100_0000_0000) ∷ rule_at (row / 0x100 % 16) ∷ rule_at (row / 16 % 16) ∷ rule_at (row % 16)
+    children_of (row / 0x1000 % 0x100_0000_0000) ∷ rule_at (row / 0x100 % 16) ∷ rule_at (row / 16 % 16)
+    ∷ rule_at (row % 16)
     ∷ []
 
 unfoldable pub rules_of : ℕ → List Children
@@ -81,7 +83,8 @@ class_for c j = get_or c.front j c.middle
 
 unfoldable pub ranges_from : Children → ℕ → ℕ
 ranges_from c j =
-    range_of (class_for c j) + 0x1_0000 * range_of (class_for c (j + 1)) + 0x1_0000_0000 * range_of (class_for c (j + 2))
+    range_of (class_for c j) + 0x1_0000 * range_of (class_for c (j + 1)) + 0x1_0000_0000 * range_of
+    (class_for c (j + 2))
     + 0x1_0000_0000_0000 * range_of (class_for c (j + 3))
 
 -- whether a rule names the class of each child that it permits: of all first children, and in the middle unless it

@@ -1,5 +1,7 @@
 // Soundness of a node table: the kinds of records, the rule of a record with its children, and the first record that
 // breaks it.
+#![tactic(auto)]
+
 pub mod classes;
 pub mod kinds;
 mod rows;

@@ -258,7 +258,7 @@ fn root_end(table: &[u8]) -> usize
 
 // The top-level statement of a record: where it ends and its file number; then the least and the greatest file number
 // that the record may have.
-#[derive(Drop)]
+#[derive(Clone, Copy)]
 struct Within {
     end: usize,
     file: u16,

@@ -1,6 +1,6 @@
 -- The positions and places of books fit words: a book that passes has at most 100 blocks, so a place is below 2,100
--- and its bytes begin below 51,200. An answer with a place comes only from a sound book (`in_order_lem`, by the order of
--- the tests), and the best place and the first place of a book are among its places (`best_inside`, books'
+-- and its bytes begin below 51,200. An answer with a place comes only from a sound book (`in_order_lem`, by the order
+-- of the tests), and the best place and the first place of a book are among its places (`best_inside`, books'
 -- `first_inside`). Cite `zone_fits`, `line_fits`, `added_fits` and `removed_fits`. `best_inside` is by induction on
 -- the places; the rest are case distinctions on the tests. Assumes nothing.
 use mathlib.Core.Path.{◌≡◌, refl, sym, ap, ◌∙◌}

@@ -10,7 +10,7 @@ use Rattle.table.specs.Check.{check_of}
 use Rattle.parameters.specs.Params.{params_of, modes_after}
 use Rattle.arguments.specs.Job.{call_of}
 use Rattle.bind.specs.Job.{bind_of, list_after}
-use Rattle.namesakes.specs.Job.{namesakes_of, list_after as reportsAfter}
+use Rattle.namesakes.specs.Job.{namesakes_of, list_after as reports_after}
 use Rattle.targets.specs.Jobs.{target_of, assignment_of}
 use Rattle.types.specs.Jobs.{type_shape_of}
 use Rattle.shapes.specs.Jobs.{shapes_after}
@@ -20,7 +20,7 @@ use Rattle.tablefile.specs.Reading.{content_at}
 use Rattle.tablefile.specs.Lending.{into_check, handed}
 use Rattle.filepass.specs.Passing.{answer_of, words_after}
 use Rattle.writer.specs.Writing.{holding, write_of, file_after}
-use Rattle.rescue.specs.Job.{rescue_of, file_after as rescuedAfter}
+use Rattle.rescue.specs.Job.{rescue_of, file_after as rescued_after}
 use Rattle.books.specs.Lookup.{lookup_of, looked}
 use Rattle.books.specs.Change.{add_of, zone_added, line_added, remove_of, zone_removed, line_removed, changed}
 use Rattle.books.specs.Change.{blank_of, blank_after}
@@ -30,7 +30,7 @@ use Rattle.starlark_checks.specs.Version.{version}
 use Rattle.figures.specs.Reporting.{step_of, figures_after, report_of}
 use Rattle.starlark_checks.specs.FigureWords.{ending_number, ending_words, step_answer}
 use Rattle.fstring.specs.Writing.{write_of as text_of, text_after}
-use Rattle.fstring.specs.Reading.{read_of as partsRead, words_after as partsAfter, texts_after}
+use Rattle.fstring.specs.Reading.{read_of as parts_read, words_after as parts_after, texts_after}
 use Rattle.starlark_checks.specs.FormatWords.{text_words, part_words}
 
 -- of `starlark_version`
@@ -74,9 +74,9 @@ starlark_bind_one table names call def list out r-is out-is list_is s-is out-are
 pub starlark_namesakes_one : (table names : List ℕ) (call def : ℕ) (list out : List ℕ) {r s : ℕ}
     {list-r list-s : List ℕ} {out-r out-s : List ℕ} → r ≡ number (namesakes_of table names call def (length list))
     → out-r ≡ laid (words (namesakes_of table names call def (length list))) 0 out
-    → list-r ≡ reportsAfter table names call def list → s ≡ number (namesakes_of table names call def (length list))
+    → list-r ≡ reports_after table names call def list → s ≡ number (namesakes_of table names call def (length list))
     → out-s ≡ laid (words (namesakes_of table names call def (length list))) 0 out
-    → list-s ≡ reportsAfter table names call def list → (r ≡ s) × (list-r ≡ list-s) × (out-r ≡ out-s)
+    → list-s ≡ reports_after table names call def list → (r ≡ s) × (list-r ≡ list-s) × (out-r ≡ out-s)
 starlark_namesakes_one table names call def list out r-is out-is list_is s-is out-are list-are =
     (coincide r-is s-is, coincide list_is list-are, coincide out-is out-are)
 
@@ -142,8 +142,8 @@ starlark_write_one table names dialect edition file out r-is out-is file-is s-is
 -- of `starlark_rescue`
 pub starlark_rescue_one : (input file out : List ℕ) {r s : ℕ} {file-r file-s : List ℕ} {out-r out-s : List ℕ}
     → r ≡ number (rescue_of input (length file)) → out-r ≡ laid (rescue_words (rescue_of input (length file))) 0 out
-    → file-r ≡ rescuedAfter input file → s ≡ number (rescue_of input (length file))
-    → out-s ≡ laid (rescue_words (rescue_of input (length file))) 0 out → file-s ≡ rescuedAfter input file
+    → file-r ≡ rescued_after input file → s ≡ number (rescue_of input (length file))
+    → out-s ≡ laid (rescue_words (rescue_of input (length file))) 0 out → file-s ≡ rescued_after input file
     → (r ≡ s) × (file-r ≡ file-s) × (out-r ≡ out-s)
 starlark_rescue_one input file out r-is out-is file-is s-is out-are file-are =
     (coincide r-is s-is, coincide file-is file-are, coincide out-is out-are)
@@ -164,8 +164,10 @@ starlark_read_one file table names out r-is out-is table_is names-is s-is out-ar
 
 -- of `starlark_check_file`
 pub starlark_check_file_one : (file errors out : List ℕ) {r s : ℕ} {errors-r errors-s : List ℕ} {out-r out-s : List ℕ}
-    → r ≡ number (answer_of file) → out-r ≡ laid (pass_words (answer_of file)) 0 out → errors-r ≡ words_after file errors
-    → s ≡ number (answer_of file) → out-s ≡ laid (pass_words (answer_of file)) 0 out → errors-s ≡ words_after file errors
+    → r ≡ number (answer_of file) → out-r ≡ laid (pass_words (answer_of file)) 0 out
+    → errors-r ≡ words_after file errors
+    → s ≡ number (answer_of file) → out-s ≡ laid (pass_words (answer_of file)) 0 out
+    → errors-s ≡ words_after file errors
     → (r ≡ s) × (errors-r ≡ errors-s) × (out-r ≡ out-s)
 starlark_check_file_one file errors out r-is out-is errors-is s-is out-are errors-are =
     (coincide r-is s-is, coincide errors-is errors-are, coincide out-is out-are)
@@ -183,12 +185,12 @@ starlark_fstring_write_one parts texts dialect text out r-is out-is text-is s-is
 
 -- of `starlark_fstring_read`
 pub starlark_fstring_read_one : (text parts texts out : List ℕ) {r s : ℕ} {parts-r parts-s : List ℕ}
-    {texts-r texts-s : List ℕ} {out-r out-s : List ℕ} → r ≡ number (partsRead text (length parts) (length texts))
-    → out-r ≡ laid (part_words (partsRead text (length parts) (length texts))) 0 out
-    → parts-r ≡ partsAfter text parts (length texts) → texts-r ≡ texts_after text (length parts) texts
-    → s ≡ number (partsRead text (length parts) (length texts))
-    → out-s ≡ laid (part_words (partsRead text (length parts) (length texts))) 0 out
-    → parts-s ≡ partsAfter text parts (length texts) → texts-s ≡ texts_after text (length parts) texts
+    {texts-r texts-s : List ℕ} {out-r out-s : List ℕ} → r ≡ number (parts_read text (length parts) (length texts))
+    → out-r ≡ laid (part_words (parts_read text (length parts) (length texts))) 0 out
+    → parts-r ≡ parts_after text parts (length texts) → texts-r ≡ texts_after text (length parts) texts
+    → s ≡ number (parts_read text (length parts) (length texts))
+    → out-s ≡ laid (part_words (parts_read text (length parts) (length texts))) 0 out
+    → parts-s ≡ parts_after text parts (length texts) → texts-s ≡ texts_after text (length parts) texts
     → (r ≡ s) × (parts-r ≡ parts-s) × (texts-r ≡ texts-s) × (out-r ≡ out-s)
 starlark_fstring_read_one text parts texts out r-is out-is parts_is texts-is s-is out-are parts_are texts-are =
     (coincide r-is s-is, coincide parts_is parts_are, coincide texts-is texts-are, coincide out-is out-are)

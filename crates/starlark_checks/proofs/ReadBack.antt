@@ -61,7 +61,8 @@ module _ (file t ns : List ℕ) (c : Content) (passed : read_check file ≡ acce
       ∷ stated_word c.edition ∷ number_held c.edition ∷ []
   its_values =
       let f = read_fronted file passed in
-      let nodes : (header_at file).nodes ≡ length (content_at file).table / 24 = omega (arith, table_length_lem file f) in
+      let nodes : (header_at file).nodes
+      ≡ length (content_at file).table / 24 = omega (arith, table_length_lem file f) in
       rw (nodes, ← names_length file f, ← dialect_length file f, c-is) refl
 
 -- THEOREM: if the reader accepts a file, and table and names fit the buffers, `starlark_read` writes the content of the

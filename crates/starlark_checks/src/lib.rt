@@ -1,4 +1,7 @@
-// The C interface: each job returns its number, and writes its values into twelve words of the caller.
+// The C interface: each job returns its number, and writes its values into twelve words of the caller. The crate
+// starlark_checks_c exports these functions to C under their names.
+#![tactic(auto)]
+
 ghost use Rattle.std.specs.Prelude.{◌≡◌, [], ◌∷◌, ◌+◌, ◌^◌, ◌<◌, length};
 ghost use Rattle.table.specs.Answer.{accepted, refused, refusal};
 ghost use Rattle.table.specs.Numbers.{stray_brace};
@@ -7,7 +10,7 @@ ghost use Rattle.parameters.specs.Indices.{values_of};
 ghost use Rattle.parameters.specs.Params.{params_of, modes_after};
 ghost use Rattle.arguments.specs.Job.{place_values, call_values, call_of};
 ghost use Rattle.bind.specs.Job.{bind_of, list_after};
-ghost use Rattle.namesakes.specs.Job.{namesakes_of, list_after as reportsAfter};
+ghost use Rattle.namesakes.specs.Job.{namesakes_of, list_after as reports_after};
 ghost use Rattle.targets.specs.Jobs.{target_of, assignment_of};
 ghost use Rattle.types.specs.Jobs.{type_shape_of};
 ghost use Rattle.shapes.specs.Jobs.{shapes_after};
@@ -17,7 +20,7 @@ ghost use Rattle.tablefile.specs.Reading.{header_at, content_at};
 ghost use Rattle.tablefile.specs.Lending.{into_check, handed};
 ghost use Rattle.filepass.specs.Passing.{answer_of, words_after};
 ghost use Rattle.writer.specs.Writing.{holding, write_of, file_after};
-ghost use Rattle.rescue.specs.Job.{rescue_of, file_after as rescuedAfter, told};
+ghost use Rattle.rescue.specs.Job.{rescue_of, file_after as rescued_after, told};
 ghost use Rattle.books.specs.Lookup.{lookup_of, looked};
 ghost use Rattle.books.specs.Change.{add_of, zone_added, line_added, remove_of, zone_removed, line_removed, changed};
 ghost use Rattle.books.specs.Change.{blank_of, blank_after};
@@ -28,7 +31,7 @@ ghost use Rattle.starlark_checks.specs.Version.{version};
 ghost use Rattle.figures.specs.Reporting.{step_of, figures_after, report_of};
 ghost use Rattle.starlark_checks.specs.FigureWords.{ending_number, ending_words, step_answer};
 ghost use Rattle.fstring.specs.Writing.{write_of as text_of, text_after, notice};
-ghost use Rattle.fstring.specs.Reading.{read_of as partsRead, words_after as partsAfter, texts_after};
+ghost use Rattle.fstring.specs.Reading.{read_of as parts_read, words_after as parts_after, texts_after};
 ghost use Rattle.starlark_checks.specs.FormatWords.{two_words, text_words, part_words};
 
 use arguments::{CallArgs, Called};
@@ -220,16 +223,14 @@ fn put_held(file: &[u8], out: &mut [u32; 12]) -> u32
 }
 
 // The version of the library: major * 65536 + minor * 256 + patch.
-#[unsafe(no_mangle)]
-pub extern "C" fn starlark_version() -> u32
+pub fn starlark_version() -> u32
     ensures { result ≡ version }
 {
     MAJOR * 65_536 + MINOR * 256 + PATCH
 }
 
 // The table check.
-#[unsafe(no_mangle)]
-pub extern "C" fn starlark_table(table: &[u8], names: &[u8], out: &mut [u32; 12]) -> u32
+pub fn starlark_table(table: &[u8], names: &[u8], out: &mut [u32; 12]) -> u32
     ensures value { result ≡ number (check_of table.now names.now) }
     ensures out_after { out.new ≡
         laid (words (check_of table.now names.now)) 0 out.old }
@@ -242,8 +243,7 @@ pub extern "C" fn starlark_table(table: &[u8], names: &[u8], out: &mut [u32; 12]
 }
 
 // The parameter job: writes begin and end of the five ranges, then the flat count.
-#[unsafe(no_mangle)]
-pub extern "C" fn starlark_params(
+pub fn starlark_params(
     table: &[u8],
     names: &[u8],
     node: usize,
@@ -267,8 +267,7 @@ pub extern "C" fn starlark_params(
 
 // The call job: writes the numbers of positional and named arguments, the place of star and the place of `**`;
 // 0xFFFFFFFF is none.
-#[unsafe(no_mangle)]
-pub extern "C" fn starlark_call(table: &[u8], names: &[u8], node: usize, out: &mut [u32; 12]) -> u32
+pub fn starlark_call(table: &[u8], names: &[u8], node: usize, out: &mut [u32; 12]) -> u32
     ensures value { result ≡ number (call_of table.now names.now node) }
     ensures out_after { out.new ≡
         laid (call_words (call_of table.now names.now node)) 0 out.old }
@@ -281,8 +280,7 @@ pub extern "C" fn starlark_call(table: &[u8], names: &[u8], node: usize, out: &m
 }
 
 // The binding job: writes the flat count and the number of arguments, and a word for each argument into the list.
-#[unsafe(no_mangle)]
-pub extern "C" fn starlark_bind(
+pub fn starlark_bind(
     table: &[u8],
     names: &[u8],
     call: usize,
@@ -306,8 +304,7 @@ pub extern "C" fn starlark_bind(
 }
 
 // The namesakes job: writes the number of reported arguments, and four words for each of them into the list.
-#[unsafe(no_mangle)]
-pub extern "C" fn starlark_namesakes(
+pub fn starlark_namesakes(
     table: &[u8],
     names: &[u8],
     call: usize,
@@ -321,7 +318,7 @@ pub extern "C" fn starlark_namesakes(
         laid (words (namesakes_of table.now names.now call def (length list.old))) 0
         out.old }
     ensures list_after { list.new ≡
-        reportsAfter table.now names.now call def list.old }
+        reports_after table.now names.now call def list.old }
 {
     let answer = namesakes::namesakes(table, names, call, def, list);
     match answer {
@@ -331,13 +328,7 @@ pub extern "C" fn starlark_namesakes(
 }
 
 // The target job: writes the number of leaves.
-#[unsafe(no_mangle)]
-pub extern "C" fn starlark_target(
-    table: &[u8],
-    names: &[u8],
-    node: usize,
-    out: &mut [u32; 12],
-) -> u32
+pub fn starlark_target(table: &[u8], names: &[u8], node: usize, out: &mut [u32; 12]) -> u32
     ensures value { result ≡ number (target_of table.now names.now node) }
     ensures out_after { out.new ≡
         laid (words (target_of table.now names.now node)) 0 out.old }
@@ -350,13 +341,7 @@ pub extern "C" fn starlark_target(
 }
 
 // The assignment job: writes the number of leaves.
-#[unsafe(no_mangle)]
-pub extern "C" fn starlark_assignment(
-    table: &[u8],
-    names: &[u8],
-    node: usize,
-    out: &mut [u32; 12],
-) -> u32
+pub fn starlark_assignment(table: &[u8], names: &[u8], node: usize, out: &mut [u32; 12]) -> u32
     ensures value { result ≡ number (assignment_of table.now names.now node) }
     ensures out_after { out.new ≡
         laid (words (assignment_of table.now names.now node)) 0 out.old }
@@ -369,8 +354,7 @@ pub extern "C" fn starlark_assignment(
 }
 
 // The type job, by the edition of this number: writes the shapes alone.
-#[unsafe(no_mangle)]
-pub extern "C" fn starlark_type(
+pub fn starlark_type(
     table: &[u8],
     names: &[u8],
     dialect: &[u8],
@@ -397,8 +381,7 @@ pub extern "C" fn starlark_type(
 }
 
 // The module pass: writes the total, and the first errors that fit the list.
-#[unsafe(no_mangle)]
-pub extern "C" fn starlark_module(
+pub fn starlark_module(
     table: &[u8],
     names: &[u8],
     dialect: &[u8],
@@ -421,8 +404,7 @@ pub extern "C" fn starlark_module(
 
 // The audit, with types by the edition of this number: writes the total of what every job refuses on every node that it
 // fits, and the first errors that fit the list.
-#[unsafe(no_mangle)]
-pub extern "C" fn starlark_audit(
+pub fn starlark_audit(
     table: &[u8],
     names: &[u8],
     dialect: &[u8],
@@ -471,8 +453,7 @@ fn write_stated(
 }
 
 // The writer: writes the file to the front of the buffer, and its number of bytes. 0xFFFFFFFF is no edition.
-#[unsafe(no_mangle)]
-pub extern "C" fn starlark_write(
+pub fn starlark_write(
     table: &[u8],
     names: &[u8],
     dialect: &[u8],
@@ -495,12 +476,11 @@ pub extern "C" fn starlark_write(
 
 // The rescue: writes the output to the front of the buffer, and the numbers of bytes written, statements kept, nodes
 // kept, nodes dropped, and bytes after the last block, low and high word.
-#[unsafe(no_mangle)]
-pub extern "C" fn starlark_rescue(input: &[u8], file: &mut [u8], out: &mut [u32; 12]) -> u32
+pub fn starlark_rescue(input: &[u8], file: &mut [u8], out: &mut [u32; 12]) -> u32
     ensures value { result ≡ number (rescue_of input.now (length file.old)) }
     ensures out_after { out.new ≡
         laid (rescue_words (rescue_of input.now (length file.old))) 0 out.old }
-    ensures file_after { file.new ≡ rescuedAfter input.now file.old }
+    ensures file_after { file.new ≡ rescued_after input.now file.old }
 {
     let answer = rescue::rescue(input, file);
     match answer {
@@ -515,13 +495,7 @@ pub extern "C" fn starlark_rescue(input: &[u8], file: &mut [u8], out: &mut [u32;
 // The reader: writes table and names to the fronts of two buffers, and the numbers of nodes and name bytes, whether
 // there is a dialect, its nine bytes, four a word, the low one first, the stated edition, or 0xFFFFFFFF, and the
 // edition that holds.
-#[unsafe(no_mangle)]
-pub extern "C" fn starlark_read(
-    file: &[u8],
-    table: &mut [u8],
-    names: &mut [u8],
-    out: &mut [u32; 12],
-) -> u32
+pub fn starlark_read(file: &[u8], table: &mut [u8], names: &mut [u8], out: &mut [u32; 12]) -> u32
     ensures value { result ≡
         number (read_of file.now (length table.old) (length names.old)) }
     ensures out_after { out.new ≡
@@ -542,8 +516,7 @@ pub extern "C" fn starlark_read(
 }
 
 // The check of a file: writes the number of errors, the number of nodes, and the first errors that fit the list.
-#[unsafe(no_mangle)]
-pub extern "C" fn starlark_check_file(file: &[u8], errors: &mut [u32], out: &mut [u32; 12]) -> u32
+pub fn starlark_check_file(file: &[u8], errors: &mut [u32], out: &mut [u32; 12]) -> u32
     ensures value { result ≡ number (answer_of file.now) }
     ensures out_after { out.new ≡ laid (pass_words (answer_of file.now)) 0 out.old }
     ensures errors_after { errors.new ≡ words_after file.now errors.old }
@@ -605,8 +578,7 @@ fn put_stray(position: usize, out: &mut [u32; 12]) -> u32
 
 // The writer of format texts: writes the text to the front of the buffer, its length as two words, the low one first,
 // and 62 or 0.
-#[unsafe(no_mangle)]
-pub extern "C" fn starlark_fstring_write(
+pub fn starlark_fstring_write(
     parts: &[u32],
     texts: &[u8],
     dialect: &[u8],
@@ -631,20 +603,19 @@ pub extern "C" fn starlark_fstring_write(
 
 // The reader of format texts: writes words and texts to the fronts of two buffers, and the numbers of parts and of text
 // bytes, each as two words, the low one first. The position of 63 is written so too.
-#[unsafe(no_mangle)]
-pub extern "C" fn starlark_fstring_read(
+pub fn starlark_fstring_read(
     text: &[u8],
     parts: &mut [u32],
     texts: &mut [u8],
     out: &mut [u32; 12],
 ) -> u32
     ensures value { result ≡
-        number (partsRead text.now (length parts.old) (length texts.old)) }
+        number (parts_read text.now (length parts.old) (length texts.old)) }
     ensures out_after { out.new ≡
-        laid (part_words (partsRead text.now (length parts.old) (length texts.old))) 0
+        laid (part_words (parts_read text.now (length parts.old) (length texts.old))) 0
         out.old }
     ensures parts_after { parts.new ≡
-        partsAfter text.now parts.old (length texts.old) }
+        parts_after text.now parts.old (length texts.old) }
     ensures texts_after { texts.new ≡
         texts_after text.now (length parts.old) texts.old }
 {
@@ -680,8 +651,7 @@ fn put_changed(answer: Changed, out: &mut [u32; 12]) -> u32
 
 // The lookup in two books: writes the book, 0 the zone book or 1 the line book, and the position of the nine bytes in
 // it.
-#[unsafe(no_mangle)]
-pub extern "C" fn starlark_book_lookup(
+pub fn starlark_book_lookup(
     zone_book: &[u8],
     line_book: &[u8],
     zone: u32,
@@ -704,8 +674,7 @@ pub extern "C" fn starlark_book_lookup(
 }
 
 // Adds an entry to its book, zone 0 to the line book: writes the book and the place, counted from 0, 21 a block.
-#[unsafe(no_mangle)]
-pub extern "C" fn starlark_book_add(
+pub fn starlark_book_add(
     zone_book: &mut [u8],
     line_book: &mut [u8],
     zone: u32,
@@ -729,8 +698,7 @@ pub extern "C" fn starlark_book_add(
 }
 
 // Removes the entry of exactly this zone and setting from its book: writes the book and the place.
-#[unsafe(no_mangle)]
-pub extern "C" fn starlark_book_remove(
+pub fn starlark_book_remove(
     zone_book: &mut [u8],
     line_book: &mut [u8],
     zone: u32,
@@ -752,8 +720,7 @@ pub extern "C" fn starlark_book_remove(
 }
 
 // Makes an empty book of a buffer of 1 to 100 blocks; any other length is 95.
-#[unsafe(no_mangle)]
-pub extern "C" fn starlark_book_blank(book: &mut [u8], out: &mut [u32; 12]) -> u32
+pub fn starlark_book_blank(book: &mut [u8], out: &mut [u32; 12]) -> u32
     ensures value { result ≡ blank_of (length book.old) }
     ensures out_after { out.new ≡ laid [] 0 out.old }
     ensures book_after { book.new ≡ blank_after book.old }
@@ -782,12 +749,7 @@ fn put_ending(ending: Ending, place: usize, out: &mut [u32; 12]) -> u32
 }
 
 // The report over files one after another: writes the counters into the buffer, also if a refused file ends it.
-#[unsafe(no_mangle)]
-pub extern "C" fn starlark_figures(
-    input: &[u8],
-    figures: &mut [u64; 32],
-    out: &mut [u32; 12],
-) -> u32
+pub fn starlark_figures(input: &[u8], figures: &mut [u64; 32], out: &mut [u32; 12]) -> u32
     ensures value { result ≡ ending_number (report_of input.now).ending }
     ensures out_after { out.new ≡
         laid (ending_words (report_of input.now).ending) 0 out.old }
@@ -812,12 +774,7 @@ fn put_taken(n: usize, place: usize, out: &mut [u32; 12]) -> u32
 }
 
 // One step: adds the file at the front of a window to the counters, and writes the number of bytes that it takes.
-#[unsafe(no_mangle)]
-pub extern "C" fn starlark_figures_step(
-    window: &[u8],
-    figures: &mut [u64; 32],
-    out: &mut [u32; 12],
-) -> u32
+pub fn starlark_figures_step(window: &[u8], figures: &mut [u64; 32], out: &mut [u32; 12]) -> u32
     ensures value { result ≡ number (step_answer (step_of window.now figures.old)) }
     ensures out_after { out.new ≡
         laid (words (step_answer (step_of window.now figures.old))) 0 out.old }

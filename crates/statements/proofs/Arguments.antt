@@ -23,14 +23,14 @@ use Rattle.arguments.specs.Job.{name_span, call_values, call_of}
 use Rattle.arguments.specs.Twice.{index_of}
 use Rattle.arguments.specs.declared.CallArgs.{CallArgs}
 use Rattle.arguments.proofs.AcceptedCalls as theorem
-use Rattle.arguments.proofs.Order as theorem-order
-use Rattle.arguments.proofs.Twice as theorem-twice
-use Rattle.arguments.proofs.Files as theorem-files
+use Rattle.arguments.proofs.Order as theorem_order
+use Rattle.arguments.proofs.Twice as theorem_twice
+use Rattle.arguments.proofs.Files as theorem_files
 
 -- "Both files' internal errors are shown never to arise": call.rs 82, 97, 112
 -- In words: no list of arguments gives an internal error.
 pub no_internal_error : (l : List Argument) → Expected (unpack l)
-no_internal_error = theorem-order.no_internal_error
+no_internal_error = theorem_order.no_internal_error
 
 -- "Accepted: positional, then named, then at most one star, then at most one `**`; names distinct."
 -- In words: in a sound table, a call whose arguments are in this order is accepted, with their numbers and places.
@@ -79,7 +79,7 @@ ordered_one l a c kinds star kw apart kinds' star' kw' = theorem.ordered_one l a
 -- W-203: "Refusals 11 and 22 carry that node besides what they carried; all other refusals carry none."
 -- In words: 22 carries five numbers, and any other refusal of the call job at most four.
 pub call_carries : (t names : List ℕ) (i : ℕ) → OnlyCarries repeated_named (call_of t names i)
-call_carries = theorem-twice.call_carries
+call_carries = theorem_twice.call_carries
 
 -- W-203: "The search for an equal earlier name shall answer the first such name's position."
 -- In words: 22 carries the node and the name's span of an argument of the call and then an earlier node. Of the
@@ -101,7 +101,7 @@ pub call_twice : (t names : List ℕ) (i : ℕ) {vs : List ℕ}
     × NonePasses (has_name name) after
     × (j < r.at)
 call_twice t names i e =
-    let x = theorem-twice.call_twice t names i e in
+    let x = theorem_twice.call_twice t names i e in
     let w = x.1.1.1 in
     let f = w.earlier in (
       x.0,
@@ -136,6 +136,6 @@ pub call_file : (t names : List ℕ) (i : ℕ) {n : ℕ} {vs : List ℕ}
     × (get_or vs 3 0 ≡ field 2 (drop (24 * get_or vs 0 0) t) 18)
     × (get_or vs 3 0 ≡ field 2 (drop (24 * i) t) 18)
 call_file t names i {n} {vs} e late =
-    let told : CarriesFile t i (refused n vs) = rw e at (theorem-files.call_files t names i) in
+    let told : CarriesFile t i (refused n vs) = rw e at (theorem_files.call_files t names i) in
     let f = told late in
     (f.there, f.named, f.same)

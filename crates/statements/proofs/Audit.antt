@@ -34,8 +34,8 @@ use Rattle.audited.specs.Checked.{targets_of, types_of, everywhere, Each, Fittin
 use Rattle.audited.proofs.Everywhere.{all_map}
 use Rattle.audited.proofs.Checked.{each_map}
 use Rattle.audited.proofs.Audited as theorem
-use Rattle.audited.proofs.Checked as theorem-checked
-use Rattle.audited.proofs.Files as theorem-files
+use Rattle.audited.proofs.Checked as theorem_checked
+use Rattle.audited.proofs.Files as theorem_files
 
 -- "every node"
 -- In words: the trees that the audit visits begin at the table's records, each once and in order.
@@ -111,7 +111,7 @@ pub zero_checks_all : (t names bytes : List ℕ) (n : ℕ)
     → length (stretch_of t (root_in u).at) / record_bytes ≤ room
     → is_accepted (type_shape_of t names bytes n (root_in u).at room) ≡ true) (everywhere types_of (forest 0 t))
 zero_checks_all t names bytes n e =
-    let x = theorem-checked.zero_checks_all t names bytes n e in (
+    let x = theorem_checked.zero_checks_all t names bytes n e in (
       x.0,
       each_map (λ r (f : Fitting t names r.at). (f.params, f.call, f.assignment)) (records (length t / 24) 0 t)
           x.1,
@@ -137,7 +137,7 @@ pub checks_all_zero : (t names bytes : List ℕ) (n : ℕ) {edition : Edition}
     → length (stretch_of t (root_in u).at) / record_bytes ≤ room
     → is_accepted (type_shape_of t names bytes n (root_in u).at room) ≡ true) (everywhere types_of (forest 0 t))
     → audit_of t names bytes n ≡ accepted (0 ∷ [])
-checks_all_zero t names bytes n known e nodes = theorem-checked.checks_all_zero t names bytes n known e
+checks_all_zero t names bytes n known e nodes = theorem_checked.checks_all_zero t names bytes n known e
     (each_map (λ r x. record { params = x.0; call = x.1; assignment = x.2 }) (records (length t / 24) 0 t) nodes)
 
 -- W-208: "Errors become four words: number, file, begin, end": the module pass's list
@@ -145,11 +145,11 @@ checks_all_zero t names bytes n known e nodes = theorem-checked.checks_all_zero 
 pub module_file : (t names bytes : List ℕ)
     → Each (λ (e : Err). slash_first ≤ e.number → e.span.file ≡ field 2 (drop (24 * e.node) t) 18)
     (errors_of t names bytes)
-module_file = theorem-files.module_filed
+module_file = theorem_files.module_filed
 
 -- W-208: "all answers with a span carry the file number": the audit's list
 -- In words: the same for the audit's list.
 pub audit_file : (t names bytes : List ℕ) (n : ℕ)
     → Each (λ (e : Err). slash_first ≤ e.number → e.span.file ≡ field 2 (drop (24 * e.node) t) 18)
     (all_errors t names bytes n)
-audit_file = theorem-files.audit_filed
+audit_file = theorem_files.audit_filed

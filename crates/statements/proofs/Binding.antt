@@ -23,7 +23,7 @@ use Rattle.deflist.specs.Unpack.{mode_pos_only, mode_args, mode_kwargs}
 use Rattle.parameters.specs.Params.{list_of}
 use Rattle.demand3.specs.Cut.{Cut, join, names_of, firsts, Defaulted, SlashGood, StarGood}
 use Rattle.arguments.specs.Written.{Argument, positional, named, args, kwargs, node_in}
-use Rattle.arguments.specs.Accepted.{kinds_of, in_order, Placed, names_of as argumentNames}
+use Rattle.arguments.specs.Accepted.{kinds_of, in_order, Placed, names_of as argument_names}
 use Rattle.arguments.specs.Call.{given, bit}
 use Rattle.arguments.specs.declared.CallArgs.{CallArgs}
 use Rattle.bind.specs.FlatList.{FlatParam}
@@ -32,13 +32,13 @@ use Rattle.reached.specs.Said.{IsAt, Ordinary, CanBeNamed, ByPlace, Starred, fla
 use Rattle.reached.specs.Rules as rule
 use Rattle.reached.specs.Cases.{Row, rows}
 use Rattle.reached.proofs.Reached as theorem
-use Rattle.reached.proofs.Kept as theorem-kept
-use Rattle.reached.proofs.Ruled as theorem-ruled
-use Rattle.reached.proofs.Reported as theorem-reported
-use Rattle.reached.specs.TwoFiles.{table as twoFiles, names as twoNames}
-use Rattle.reached.proofs.Examples as theorem-cases
-use Rattle.reached.proofs.Files as theorem-files
-use Rattle.reached.proofs.TwoFiles as theorem-two
+use Rattle.reached.proofs.Kept as theorem_kept
+use Rattle.reached.proofs.Ruled as theorem_ruled
+use Rattle.reached.proofs.Reported as theorem_reported
+use Rattle.reached.specs.TwoFiles.{table as table_of_two, names as names_of_two}
+use Rattle.reached.proofs.Examples as theorem_cases
+use Rattle.reached.proofs.Files as theorem_files
+use Rattle.reached.proofs.TwoFiles as theorem_two
 
 -- "Accepted calls use every argument once."
 -- In words: the word of each argument of an accepted call is the index of a flat parameter.
@@ -242,7 +242,7 @@ pub accepted_by_rules : (t names : List ℕ) (call def : ℕ) (list : List ℕ)
     → kinds_of (arguments_at t names call) ≡ in_order o
     → Placed o.star (o.num_pos + o.num_named)
     → Placed o.star_star (o.num_pos + o.num_named + bit (given o.star))
-    → Distinct (argumentNames (arguments_at t names call))
+    → Distinct (argument_names (arguments_at t names call))
     → ((k : ℕ) (r : Node) → IsAt (arguments_at t names call) k (args r) → ⊥)
     → ((k : ℕ) (r : Node) → IsAt (arguments_at t names call) k (kwargs r) → ⊥)
     → ((k : ℕ) (r : Node) → IsAt (arguments_at t names call) k (positional r)
@@ -260,7 +260,8 @@ pub accepted_by_rules : (t names : List ℕ) (call def : ℕ) (list : List ℕ)
     ⊎ ((k : ℕ) × ((r : Node) × (IsAt (arguments_at t names call) k (named r p.name) × CanBeNamed p))))
     → bind_of t names call def (length list)
     ≡ accepted (length (flats_at t names def) ∷ length (arguments_at t names call) ∷ [])
-accepted_by_rules t names call def list sound is_call is_adef room short c j b s n d o kinds star kw own no_args no_kwargs
+accepted_by_rules t names call def list sound is_call is_adef room short c j b s n d o kinds star kw own no_args
+    no_kwargs
     places by_name not_twice needed =
     theorem.accepted_by_rules t names call def list record {
       sound = sound;
@@ -296,7 +297,7 @@ accepted_by_rules t names call def list sound is_call is_adef room short c j b s
 pub refusal_keeps : (t names : List ℕ) (call def : ℕ) (list : List ℕ) {n : ℕ} {vs : List ℕ}
     → bind_of t names call def (length list) ≡ refused n vs
     → list_after t names call def list ≡ list
-refusal_keeps = theorem-kept.refusal_keeps
+refusal_keeps = theorem_kept.refusal_keeps
 
 -- "words past the answer stay"
 -- In words: after an accepted call, each word from the number of flat parameters and arguments on is unchanged.
@@ -305,14 +306,14 @@ pub past_words_stay : (t names : List ℕ) (call def : ℕ) (list : List ℕ) {v
     → (i : ℕ)
     → length (flats_at t names def) + length (arguments_at t names call) ≤ i
     → get_or (list_after t names call def list) i 0 ≡ get_or list i 0
-past_words_stay = theorem-kept.past_words_stay
+past_words_stay = theorem_kept.past_words_stay
 
 -- the list keeps its length
 -- In words: after an accepted call the list is as long as it was.
 pub list_as_long : (t names : List ℕ) (call def : ℕ) (list : List ℕ) {vs : List ℕ}
     → bind_of t names call def (length list) ≡ accepted vs
     → length (list_after t names call def list) ≡ length list
-list_as_long = theorem-kept.list_as_long
+list_as_long = theorem_kept.list_as_long
 
 -- "80 at the first star or `**` of the call": an accepted call has no star
 -- In words: no argument of an accepted call is a star argument.
@@ -321,7 +322,7 @@ pub no_star_lem : (t names : List ℕ) (call def : ℕ) (list : List ℕ) {vs : 
     → (k : ℕ) (r : Node)
     → IsAt (arguments_at t names call) k (args r)
     → ⊥
-no_star_lem = theorem-ruled.no_star_lem
+no_star_lem = theorem_ruled.no_star_lem
 
 -- "80 at the first star or `**` of the call": and no `**`
 -- In words: no argument of an accepted call is a `**` argument.
@@ -330,7 +331,7 @@ pub no_star_star : (t names : List ℕ) (call def : ℕ) (list : List ℕ) {vs :
     → (k : ℕ) (r : Node)
     → IsAt (arguments_at t names call) k (kwargs r)
     → ⊥
-no_star_star = theorem-ruled.no_star_star
+no_star_star = theorem_ruled.no_star_star
 
 -- "A call and a def that are accepted meet the rules (stated without the job)."
 -- In words: the hypotheses of `accepted_by_rules` hold for each call and def that the job accepts.
@@ -351,7 +352,7 @@ pub accepted_has_rules : (t names : List ℕ) (call def : ℕ) (list : List ℕ)
     × (kinds_of (arguments_at t names call) ≡ in_order o)
     × Placed o.star (o.num_pos + o.num_named)
     × Placed o.star_star (o.num_pos + o.num_named + bit (given o.star))
-    × Distinct (argumentNames (arguments_at t names call))
+    × Distinct (argument_names (arguments_at t names call))
     × ((k : ℕ) (r : Node) → IsAt (arguments_at t names call) k (args r) → ⊥)
     × ((k : ℕ) (r : Node) → IsAt (arguments_at t names call) k (kwargs r) → ⊥)
     × ((k : ℕ) (r : Node) → IsAt (arguments_at t names call) k (positional r)
@@ -368,7 +369,7 @@ pub accepted_has_rules : (t names : List ℕ) (call def : ℕ) (list : List ℕ)
     → ((r : Node) × (IsAt (arguments_at t names call) i (positional r) × ByPlace p))
     ⊎ ((k : ℕ) × ((r : Node) × (IsAt (arguments_at t names call) k (named r p.name) × CanBeNamed p))))
 accepted_has_rules t names call def list bound =
-    let x = theorem-ruled.accepted_has_rules t names call def list bound in
+    let x = theorem_ruled.accepted_has_rules t names call def list bound in
     let g = x.cut.1.good in
     let o = x.order.1 in
     let m = x.matching in (
@@ -413,7 +414,7 @@ pub star_is_first : (t names : List ℕ) (call def room : ℕ) {vs : List ℕ}
     × ((j : ℕ) (s : Node) → j < k → IsAt (arguments_at t names call) j (args s) → ⊥)
     × ((j : ℕ) (s : Node) → j < k → IsAt (arguments_at t names call) j (kwargs s) → ⊥)
 star_is_first t names call def room e =
-    let x = theorem-reported.star_is_first t names call def room e in
+    let x = theorem_reported.star_is_first t names call def room e in
     (x.number, x.node, x.there, x.carries, x.no_args, x.no_kwargs)
 
 -- "81 at the first positional too many without `*args`"
@@ -428,7 +429,7 @@ pub too_many_is_first : (t names : List ℕ) (call def room : ℕ) {vs : List �
     × ((p : FlatParam) → IsAt (flats_at t names def) k p → ByPlace p → ⊥)
     × ((j : ℕ) → j < k → (p : FlatParam) × IsAt (flats_at t names def) j p × ByPlace p)
 too_many_is_first t names call def room e =
-    let x = theorem-reported.too_many_is_first t names call def room e in (
+    let x = theorem_reported.too_many_is_first t names call def room e in (
       x.number,
       x.node,
       x.there,
@@ -453,7 +454,7 @@ pub empty_is_first : (t names : List ℕ) (call def room : ℕ) {vs : List ℕ}
     → ((r : Node) × (IsAt (arguments_at t names call) j (positional r) × ByPlace q))
     ⊎ ((k : ℕ) × ((r : Node) × (IsAt (arguments_at t names call) k (named r q.name) × CanBeNamed q))))
 empty_is_first t names call def room e =
-    let x = theorem-reported.empty_is_first t names call def room e in
+    let x = theorem_reported.empty_is_first t names call def room e in
     (x.index, x.param, x.there, x.carries, x.without, x.no_place, x.no_name, x.first)
 
 -- W-203: "Refusals 11 and 22 carry that node besides what they carried; all other refusals carry none."
@@ -463,19 +464,19 @@ pub bind_carries : (t names : List ℕ) (call def room : ℕ) {n : ℕ} {vs : Li
     → bind_of t names call def room ≡ refused n vs
     → ((n ≡ duplicated_parameter) ⊎ (n ≡ repeated_named) → length vs ≡ 5)
     × ((n ≡ duplicated_parameter → ⊥) → (n ≡ repeated_named → ⊥) → length vs ≤ 4)
-bind_carries = theorem-kept.bind_carries
+bind_carries = theorem_kept.bind_carries
 
 -- the corner cases of W-204
 -- In words: the definition of the job gives for the lists of each row the answer that the row shows, whatever the
 -- record of the def.
 pub corner_cases : (def : Node)
     → map (λ (r : Row). lists_bound def r.params r.arguments) rows ≡ map (λ (r : Row). r.shown) rows
-corner_cases = theorem-cases.corner_cases
+corner_cases = theorem_cases.corner_cases
 
 -- the number of the corner cases
 -- In words: the table has eighteen rows.
 pub how_many_cases : length rows ≡ 18
-how_many_cases = theorem-cases.how_many_lem
+how_many_cases = theorem_cases.how_many_lem
 
 -- W-208: "all answers with a span carry the file number": the binding job, which reads a call and a def
 -- In words: the source file number is that of the record that the refusal names. For 10 to 19 and 84 it is the number
@@ -486,14 +487,15 @@ pub bind_file : (t names : List ℕ) (call def room : ℕ) {n : ℕ} {vs : List 
     → (4 ≤ length vs)
     × (get_or vs 3 0 ≡ field 2 (drop (24 * get_or vs 0 0) t) 18)
     × ((n < positional_after_non_positional) ⊎ (n ≡ empty_parameter) → get_or vs 3 0 ≡ field 2 (drop (24 * def) t) 18)
-    × (positional_after_non_positional ≤ n → (n ≡ empty_parameter → ⊥) → get_or vs 3 0 ≡ field 2 (drop (24 * call) t) 18)
+    × (positional_after_non_positional ≤ n → (n ≡ empty_parameter → ⊥)
+    → get_or vs 3 0 ≡ field 2 (drop (24 * call) t) 18)
 bind_file t names call def room e late =
-    let f = theorem-files.bind_files t names call def room e late in (f.there, f.named, f.of_def, f.of_call)
+    let f = theorem_files.bind_files t names call def room e late in (f.there, f.named, f.of_def, f.of_call)
 
 -- W-208: "A zone's table now joins its own script and the line's common one."
 -- In words: in a table of a def of file 1 and two calls of file 2, a call without its argument is refused with 84 at
 -- the parameter, in file 1, and one that repeats a name with 22 at the argument, in file 2, and with the earlier
 -- argument's node.
-pub two_files : (bind_of twoFiles twoNames 5 1 4 ≡ refused empty_parameter (2 ∷ 6 ∷ 7 ∷ 1 ∷ []))
-    × (bind_of twoFiles twoNames 8 1 4 ≡ refused repeated_named (12 ∷ 11 ∷ 12 ∷ 2 ∷ 10 ∷ []))
-two_files = theorem-two.two_files
+pub two_files : (bind_of table_of_two names_of_two 5 1 4 ≡ refused empty_parameter (2 ∷ 6 ∷ 7 ∷ 1 ∷ []))
+    × (bind_of table_of_two names_of_two 8 1 4 ≡ refused repeated_named (12 ∷ 11 ∷ 12 ∷ 2 ∷ 10 ∷ []))
+two_files = theorem_two.two_files

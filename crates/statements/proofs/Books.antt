@@ -22,8 +22,8 @@ use Rattle.books.specs.Change.{book_number, is_line, add_of, zone_added, line_ad
 use Rattle.books.specs.Change.{blank_of, blank_after}
 use Rattle.booked.specs.Said.{book_of}
 use Rattle.booked.proofs.Lookups as theorem
-use Rattle.booked.proofs.Back as theorem-back
-use Rattle.booked.proofs.Booked as theorem-both
+use Rattle.booked.proofs.Back as theorem_back
+use Rattle.booked.proofs.Booked as theorem_both
 
 -- "gets back the nine bytes as they stand in the zone book": one direction
 -- In words: if a lookup returns a position in the zone book, both books pass, and the position is that of an entry of
@@ -322,7 +322,7 @@ pub added_is_told : (zb lb : List ℕ) (zone setting : ℕ) (dialect : List ℕ)
     (lookup_of (zone_added zb lb zone setting dialect) (line_added zb lb zone setting dialect) zone setting)
     (zone_added zb lb zone setting dialect) (line_added zb lb zone setting dialect) ≡ dialect)
 added_is_told zb lb zone setting dialect b p e small x y sz oz sl ol =
-    theorem-both.added_found zb lb zone setting dialect b p e small x y
+    theorem_both.added_found zb lb zone setting dialect b p e small x y
     record { zone = record { sound = sz; once = oz }; line = record { sound = sl; once = ol } }
 
 -- "every lookup that does not reach it is as before"
@@ -345,7 +345,7 @@ pub added_elsewhere : (zb lb : List ℕ) (zone setting : ℕ) (dialect : List �
     → lookup_of (zone_added zb lb zone setting dialect) (line_added zb lb zone setting dialect) z asked
     ≡ lookup_of zb lb z asked
 added_elsewhere zb lb zone setting dialect b p e small x y sz oz sl ol z asked other =
-    theorem-both.added_elsewhere zb lb zone setting dialect b p e small x y
+    theorem_both.added_elsewhere zb lb zone setting dialect b p e small x y
     record { zone = record { sound = sz; once = oz }; line = record { sound = sl; once = ol } } z asked other
 
 -- "Removing what was just added restores the book byte for byte"
@@ -356,11 +356,12 @@ pub added_then_removed : (zb lb : List ℕ) (zone setting : ℕ) (dialect : List
     → setting < 4294967296
     → ((i : ℕ) → get_or zb i 0 < 256)
     → ((j : ℕ) → get_or lb j 0 < 256)
-    → (remove_of (zone_added zb lb zone setting dialect) (line_added zb lb zone setting dialect) zone setting ≡ Placed b p)
+    → (remove_of (zone_added zb lb zone setting dialect) (line_added zb lb zone setting dialect) zone setting
+    ≡ Placed b p)
     × ((zone_removed (zone_added zb lb zone setting dialect) (line_added zb lb zone setting dialect) zone setting ≡ zb)
     × (line_removed (zone_added zb lb zone setting dialect) (line_added zb lb zone setting dialect) zone setting ≡ lb))
 added_then_removed zb lb zone setting dialect b p e small x y =
-    let r = theorem-both.added_removed zb lb zone setting dialect b p e small x y in
+    let r = theorem_both.added_removed zb lb zone setting dialect b p e small x y in
     (r.answered, (r.zone_book, r.line_book))
 
 -- "adding what was just removed is accepted and gives the same set of entries"
@@ -407,7 +408,7 @@ pub removed_then_added : (zb lb : List ℕ) (zone setting b p : ℕ)
     (line_added (zone_removed zb lb zone setting) (line_removed zb lb zone setting) zone setting
     (dialect_of (entry_at (book_of zone zb lb) p)))) m))))
 removed_then_added zb lb zone setting b p e small x y =
-    let a = theorem-both.removed_added zb lb zone setting b p e small x y in (
+    let a = theorem_both.removed_added zb lb zone setting b p e small x y in (
       (a.place, a.accepts),
       (
         λ r g t. let w = a.there.held r g t in (w.place, (w.inside, w.is)),
@@ -425,7 +426,7 @@ pub room_after_a_removal : (zb lb : List ℕ) (zone setting b p : ℕ)
     → add_of (zone_removed zb lb zone setting) (line_removed zb lb zone setting) z s dialect ≡ Bare 98
     → ⊥
 room_after_a_removal zb lb zone setting b p e z s dialect same f =
-    theorem-both.removed_room zb lb zone setting b p e z s dialect same f
+    theorem_both.removed_room zb lb zone setting b p e z s dialect same f
 
 -- "Results pass 95 and 96"
 -- In words: after an addition that is accepted the book of the entry passes 95 and 96.
@@ -442,7 +443,7 @@ pub added_passes : (zb lb : List ℕ) (zone setting : ℕ) (dialect : List ℕ) 
     (book_of zone (zone_added zb lb zone setting dialect) (line_added zb lb zone setting dialect)))
     ≡ false)
 added_passes zb lb zone setting dialect b p e small x y =
-    let w = theorem-both.added_passes zb lb zone setting dialect b p e small x y in
+    let w = theorem_both.added_passes zb lb zone setting dialect b p e small x y in
     (w.sound, w.once)
 
 -- the same for removals
@@ -457,7 +458,7 @@ pub removed_passes : (zb lb : List ℕ) (zone setting b p : ℕ)
     (places_of (book_of zone (zone_removed zb lb zone setting) (line_removed zb lb zone setting)))
     ≡ false)
 removed_passes zb lb zone setting b p e x y =
-    let w = theorem-both.removed_passes zb lb zone setting b p e x y in
+    let w = theorem_both.removed_passes zb lb zone setting b p e x y in
     (w.sound, w.once)
 
 -- a first book
@@ -465,7 +466,7 @@ removed_passes zb lb zone setting b p e x y =
 pub blank_passes : (line : Bool) (book : List ℕ)
     → blank_of (length book) ≡ 0
     → (sound_book line (blank_after book) ≡ true) × (twice_in (blank_after book) (places_of (blank_after book)) ≡ false)
-blank_passes line book e = let w = theorem-both.blanked_passes line book e in (w.sound, w.once)
+blank_passes line book e = let w = theorem_both.blanked_passes line book e in (w.sound, w.once)
 
 -- "only the place and its block's sum change"
 -- In words: n bytes from j on that overlap neither the new entry's place nor the sum of its block are unchanged.
@@ -479,7 +480,7 @@ pub added_apart : (zb lb : List ℕ) (zone setting : ℕ) (dialect : List ℕ) (
     (book_of zone (zone_added zb lb zone setting dialect) (line_added zb lb zone setting dialect)))
     ≡ take n (drop j (book_of zone zb lb))
 added_apart zb lb zone setting dialect b p e small j n place sum =
-    theorem-both.added_apart zb lb zone setting dialect b p e small j n record { place = place; sum = sum }
+    theorem_both.added_apart zb lb zone setting dialect b p e small j n record { place = place; sum = sum }
 
 -- the same for removals
 -- In words: n bytes from j on that overlap neither the removed entry's place nor the sum of its block are unchanged.
@@ -491,21 +492,21 @@ pub removed_apart : (zb lb : List ℕ) (zone setting b p : ℕ)
     → take n (drop j (book_of zone (zone_removed zb lb zone setting) (line_removed zb lb zone setting)))
     ≡ take n (drop j (book_of zone zb lb))
 removed_apart zb lb zone setting b p e j n place sum =
-    theorem-both.removed_apart zb lb zone setting b p e j n record { place = place; sum = sum }
+    theorem_both.removed_apart zb lb zone setting b p e j n record { place = place; sum = sum }
 
 -- "A refusal ... changes no book"
 -- In words: an addition that is not accepted leaves both books unchanged.
 pub refused_addition : (zb lb : List ℕ) (zone setting : ℕ) (dialect : List ℕ)
     → ((b p : ℕ) → add_of zb lb zone setting dialect ≡ Placed b p → ⊥)
     → (zone_added zb lb zone setting dialect ≡ zb) × (line_added zb lb zone setting dialect ≡ lb)
-refused_addition zb lb zone setting dialect other = theorem-both.added_refused zb lb zone setting dialect other
+refused_addition zb lb zone setting dialect other = theorem_both.added_refused zb lb zone setting dialect other
 
 -- the same for removals
 -- In words: a removal that is not accepted leaves both books unchanged.
 pub refused_removal : (zb lb : List ℕ) (zone setting : ℕ)
     → ((b p : ℕ) → remove_of zb lb zone setting ≡ Placed b p → ⊥)
     → (zone_removed zb lb zone setting ≡ zb) × (line_removed zb lb zone setting ≡ lb)
-refused_removal zb lb zone setting other = theorem-both.removed_refused zb lb zone setting other
+refused_removal zb lb zone setting other = theorem_both.removed_refused zb lb zone setting other
 
 -- "Both look at the entry's book only, zone 0 being the line's."
 -- In words: the answer of an addition depends only on the line book for zone 0, and only on the zone book for other
@@ -513,7 +514,7 @@ refused_removal zb lb zone setting other = theorem-both.removed_refused zb lb zo
 pub entrys_book_only : (zb lb zb' lb' : List ℕ) (zone setting : ℕ) (dialect : List ℕ)
     → book_of zone zb lb ≡ book_of zone zb' lb'
     → add_of zb lb zone setting dialect ≡ add_of zb' lb' zone setting dialect
-entrys_book_only zb lb zb' lb' zone setting dialect e = theorem-both.add_unread zb lb zb' lb' zone setting dialect e
+entrys_book_only zb lb zb' lb' zone setting dialect e = theorem_both.add_unread zb lb zb' lb' zone setting dialect e
 
 -- the same for removals
 -- In words: the answer of a removal depends only on the line book for zone 0, and only on the zone book for other
@@ -521,7 +522,7 @@ entrys_book_only zb lb zb' lb' zone setting dialect e = theorem-both.add_unread 
 pub removal_reads_one_book : (zb lb zb' lb' : List ℕ) (zone setting : ℕ)
     → book_of zone zb lb ≡ book_of zone zb' lb'
     → remove_of zb lb zone setting ≡ remove_of zb' lb' zone setting
-removal_reads_one_book zb lb zb' lb' zone setting e = theorem-both.remove_unread zb lb zb' lb' zone setting e
+removal_reads_one_book zb lb zb' lb' zone setting e = theorem_both.remove_unread zb lb zb' lb' zone setting e
 
 -- a zone of more than 16 bits
 -- In words: no entry of a book of bytes fits a zone above 65,535.
@@ -535,4 +536,4 @@ pub wide_zone_fits_nowhere : (zone asked : ℕ) (book : List ℕ)
     → setting_of (entry_at book q) ≤ asked
     → ⊥
 wide_zone_fits_nowhere zone asked book small wide q a b c d =
-    theorem-back.wide_zone zone asked book small wide q record { inside = a; taken = b; zoned = c; upto = d }
+    theorem_back.wide_zone zone asked book small wide q record { inside = a; taken = b; zoned = c; upto = d }

@@ -11,7 +11,7 @@ use Rattle.deflist.specs.Written.{Param}
 use Rattle.deflist.specs.Unpack.{Internal, internal, first_slash, positional_only, unpack}
 use Rattle.deflist.specs.Reached.{reached, AllAtMost}
 use Rattle.deflist.proofs.Theorems as theorem
-use Rattle.deflist.proofs.Counted as theorem-counted
+use Rattle.deflist.proofs.Counted as theorem_counted
 
 -- "Both files' internal errors are shown never to arise": def.rs 246, 274, 299
 -- In words: no list gives an internal error.
@@ -21,9 +21,9 @@ no_internal_error = theorem.no_internal_error
 -- "Too many parameters" and the unwraps of def.rs cannot fire
 -- In words: in every state while the list is read, each number that is counted is at most the length of the list.
 pub counted_at_most : (l : List Param) → AllAtMost (length l) (reached l)
-counted_at_most = theorem-counted.counted_at_most
+counted_at_most = theorem_counted.counted_at_most
 
 -- the same for the place of `/`
 -- In words: the written position of the first `/` is at most the length of the list.
 pub slash_at_most : (l : List Param) → (positional_only (first_slash l)).0 ≤ length l
-slash_at_most = theorem-counted.slash_at_most
+slash_at_most = theorem_counted.slash_at_most

@@ -23,8 +23,8 @@ use Rattle.fstring.specs.declared.Written.TheVariants as written_as
 use Rattle.fstring.specs.declared.Reading.{Reading}
 use Rattle.fstring.specs.declared.Reading.TheVariants as read_as
 use Rattle.fstring.proofs.OverTheJobs as theorem
-use Rattle.fstring.proofs.Normal as theorem-normal
-use Rattle.fstring.proofs.Examples as theorem-example
+use Rattle.fstring.proofs.Normal as theorem_normal
+use Rattle.fstring.proofs.Examples as theorem_example
 
 -- "Writing and reading back gives the same parts, with neighbouring texts joined, empty texts dropped and str read as
 -- none"
@@ -133,35 +133,35 @@ short_is_room = theorem.short_is_room
 -- the normal form is normal
 -- In words: the normal form has no str, no empty text and no two neighbouring texts.
 pub normal_is_normal : (ps : List Part) → is_normal (normal ps) ≡ true
-normal_is_normal = theorem-normal.normal_is_normal
+normal_is_normal = theorem_normal.normal_is_normal
 
 -- parts in normal form are their own normal form
 -- In words: the normal form of parts that are normal is these parts.
 pub normal_stays : (ps : List Part) → is_normal ps ≡ true → normal ps ≡ ps
-normal_stays = theorem-normal.normal_stays
+normal_stays = theorem_normal.normal_stays
 
 -- an instance of writing: braces in two neighbouring texts, in a dialect with f-strings
 -- In words: the parts `{`, str, an empty text and `}` give the six bytes `{{{}}}`, and no notice.
 pub split_braces : parts_check true (0 ∷ 1 ∷ 2 ∷ 0 ∷ 0 ∷ 0 ∷ 0 ∷ 1 ∷ []) (123 ∷ 125 ∷ []) 6 ≡ accepted (6 ∷ 0 ∷ [])
-split_braces = theorem-example.split_braces
+split_braces = theorem_example.split_braces
 
 -- an instance of the notice: repr in a dialect without f-strings
 -- In words: `{!r}` is written all the same, and 62 is returned with its length.
 pub switched_off : parts_check false (3 ∷ 0 ∷ []) [] 4 ≡ accepted (4 ∷ 62 ∷ [])
-switched_off = theorem-example.switched_off
+switched_off = theorem_example.switched_off
 
 -- an instance of reading: `a{}b{!r}`
 -- In words: these eight bytes are four parts with two text bytes.
 pub four_parts : read_of (97 ∷ 123 ∷ 125 ∷ 98 ∷ 123 ∷ 33 ∷ 114 ∷ 125 ∷ []) 8 2 ≡ accepted (4 ∷ 2 ∷ [])
-four_parts = theorem-example.four_parts
+four_parts = theorem_example.four_parts
 
 -- an instance of 63: `{{}`, with no room at all
 -- In words: `{{` is a doubled brace, and the brace after it, at 2, starts none of the four forms.
 pub stray_behind_doubled : read_of (123 ∷ 123 ∷ 125 ∷ []) 0 0 ≡ refused 63 (2 ∷ [])
-stray_behind_doubled = theorem-example.stray_behind_doubled
+stray_behind_doubled = theorem_example.stray_behind_doubled
 
 -- an instance of the normal form
 -- In words: an empty text is dropped, str becomes none, and two neighbouring texts are joined.
 pub normal_instance : normal (text [] ∷ str ∷ text (97 ∷ []) ∷ text (98 ∷ []) ∷ repr ∷ [])
     ≡ none ∷ text (97 ∷ 98 ∷ []) ∷ repr ∷ []
-normal_instance = theorem-example.normal_instance
+normal_instance = theorem_example.normal_instance

@@ -23,18 +23,18 @@ use Rattle.figures.specs.Reporting.{most_files, step_of, figures_after, whole, e
 use Rattle.figures.specs.declared.Stepped.TheVariants.{Taken}
 use Rattle.figures.specs.declared.Ending.TheVariants.{Whole, Refused}
 use Rattle.figured.specs.Said.{summed, ended_by76, window_bytes, through, call_at, flat_at, sum_of, most_added}
-use Rattle.figured.proofs.Sums as theorem-sums
-use Rattle.figured.proofs.Through as theorem-through
-use Rattle.figured.proofs.Stops as theorem-stops
-use Rattle.figured.proofs.Totals as theorem-totals
-use Rattle.figured.proofs.Bounds as theorem-bounds
-use Rattle.figured.proofs.Ends as theorem-ends
-use Rattle.figured.proofs.Counted as theorem-counted
+use Rattle.figured.proofs.Sums as theorem_sums
+use Rattle.figured.proofs.Through as theorem_through
+use Rattle.figured.proofs.Stops as theorem_stops
+use Rattle.figured.proofs.Totals as theorem_totals
+use Rattle.figured.proofs.Bounds as theorem_bounds
+use Rattle.figured.proofs.Ends as theorem_ends
+use Rattle.figured.proofs.Counted as theorem_counted
 
 -- "An empty input holds no file and gives zeros"
 -- In words: the report of no bytes is whole, and its 32 counters are 0.
 pub empty_report : report_of [] ≡ whole zeros
-empty_report = theorem-ends.empty_report
+empty_report = theorem_ends.empty_report
 
 -- a file is counted, whatever follows it
 -- In words: a step over the file of table, names and dialect, bytes that pass 1 to 5, followed by any bytes, counts
@@ -49,7 +49,7 @@ pub file_step : (c : Content) (rest figures : List ℕ)
     × (figures_after (file_of c ++ rest) figures ≡ added figures (figures_of c))
 file_step c rest figures sound t n d room =
     let s : SoundContent c = record { sound = sound; table_bytes = t; names_bytes = n; dialect_bytes = d } in
-    (theorem-counted.file_step c s rest figures room, theorem-counted.file_after_lem c s rest figures room)
+    (theorem_counted.file_step c s rest figures room, theorem_counted.file_after_lem c s rest figures room)
 
 -- a file is counted: its report
 -- In words: the report of such a file by itself is whole, and its counters are the figures of what the file holds.
@@ -60,12 +60,12 @@ pub file_report : (c : Content)
     → ((i : ℕ) → get_or c.dialect i 0 < 256)
     → report_of (file_of c) ≡ whole (figures_of c)
 file_report c sound t n d =
-    theorem-counted.file_report c record { sound = sound; table_bytes = t; names_bytes = n; dialect_bytes = d }
+    theorem_counted.file_report c record { sound = sound; table_bytes = t; names_bytes = n; dialect_bytes = d }
 
 -- a file is counted: one such file, with the numbers
 -- In words: the report of the file of `x = 1` is whole: one file, four nodes, and every other counter 0.
 pub example_report : report_of (file_of content) ≡ whole (1 ∷ 4 ∷ replicate 30 0)
-example_report = theorem-counted.example_report
+example_report = theorem_counted.example_report
 
 -- bytes after a file's last block begin the next file, however few they are
 -- In words: an input that has a byte and is shorter than a block ends with 70 at its first byte, with all counters 0.
@@ -73,12 +73,12 @@ pub short_report : (a : List ℕ)
     → (length a ≡ 0 → ⊥)
     → length a < block_bytes
     → report_of a ≡ ended_by block_short 0 zeros
-short_report = theorem-ends.short_report
+short_report = theorem_ends.short_report
 
 -- "a single byte does too (70)": such an input, with the numbers
 -- In words: the report of one byte, 0, ends with 70 at place 0.
 pub one_byte : report_of (0 ∷ []) ≡ ended_by 70 0 zeros
-one_byte = theorem-ends.one_byte
+one_byte = theorem_ends.one_byte
 
 -- figures of parts may be added
 -- In words: if the first of two inputs has no refused file, and the report of both joined does not end with 76, that
@@ -87,7 +87,7 @@ pub report_sums : (a b : List ℕ)
     → (report_of a).ending ≡ Whole
     → ended_by76 (report_of (a ++ b)).ending ≡ false
     → report_of (a ++ b) ≡ summed (length a) (report_of a) (report_of b)
-report_sums = theorem-sums.report_sums
+report_sums = theorem_sums.report_sums
 
 -- inputs of any length may be read through a buffer: one step
 -- In words: a step gives the same answer for the first n bytes of what is left as for all of it, for any n from
@@ -97,7 +97,7 @@ pub window_step : (n : ℕ) (left : List ℕ)
     → (figures : List ℕ)
     → (length left ≡ 0 → ⊥)
     → step_of (take n left) figures ≡ step_of left figures
-window_step = theorem-through.window_step
+window_step = theorem_through.window_step
 
 -- inputs of any length may be read through a buffer: the counters
 -- In words: such a step leaves the same counters.
@@ -106,7 +106,7 @@ pub window_after : (n : ℕ) (left : List ℕ)
     → (figures : List ℕ)
     → (length left ≡ 0 → ⊥)
     → figures_after (take n left) figures ≡ figures_after left figures
-window_after = theorem-through.window_after
+window_after = theorem_through.window_after
 
 -- inputs of any length may be read through a buffer: the whole report
 -- In words: the steps of an input, each of which sees the first bytes of what is left, give its report, if the buffer
@@ -115,12 +115,12 @@ pub report_through : (room : ℕ → ℕ)
     → ((at : ℕ) → window_bytes ≤ room at)
     → (input : List ℕ)
     → through room input ≡ report_of input
-report_through = theorem-through.report_through
+report_through = theorem_through.report_through
 
 -- how large such a buffer is
 -- In words: `window_bytes` is 59,904.
 pub window_bytes_lem : window_bytes ≡ 59904
-window_bytes_lem = theorem-through.window_bytes_lem
+window_bytes_lem = theorem_through.window_bytes_lem
 
 -- "Files before it are counted, that one not at all"
 -- In words: if a refused file ends the report of an input at a place, the report of the bytes before that place is
@@ -128,14 +128,14 @@ window_bytes_lem = theorem-through.window_bytes_lem
 pub report_before : (a : List ℕ) {number place : ℕ}
     → (report_of a).ending ≡ Refused number place
     → report_of (take place a) ≡ whole (report_of a).figures
-report_before = theorem-stops.report_before
+report_before = theorem_stops.report_before
 
 -- the place of a refused file
 -- In words: it is not past the end of the input.
 pub report_place : (a : List ℕ) {number place : ℕ}
     → (report_of a).ending ≡ Refused number place
     → place ≤ length a
-report_place = theorem-stops.report_place
+report_place = theorem_stops.report_place
 
 -- a refusal does not depend on what follows, except 70, which may mean that a file goes on in the next input
 -- In words: if the report of an input ends with a number other than 70, the report of that input followed by any bytes
@@ -145,12 +145,12 @@ pub report_same : (a : List ℕ) {number place : ℕ}
     → (number ≡ 70 → ⊥)
     → (b : List ℕ)
     → report_of (a ++ b) ≡ report_of a
-report_same = theorem-stops.report_same
+report_same = theorem_stops.report_same
 
 -- "Calls accepted and refused together are all calls"
 -- In words: in any table, the numbers of calls accepted and refused add up to the number of nodes of kind 22.
 pub calls_all : (t names : List ℕ) → over t (accepted_at t names) + over t (refused_at t names) ≡ over t (call_at t)
-calls_all = theorem-totals.calls_all
+calls_all = theorem_totals.calls_all
 
 -- "modes summed are the flat counts of the accepted lists"
 -- In words: the five modes of a table add up to the flat counts that the parameters job returns for the lists of the
@@ -162,13 +162,13 @@ pub modes_all : (t names : List ℕ)
     + (over t (mode_at mode_args t names)
     + over t (mode_at mode_kwargs t names))))
     ≡ over t (flat_at t names)
-modes_all = theorem-totals.modes_all
+modes_all = theorem_totals.modes_all
 
 -- "errors summed are the totals of the module pass"
 -- In words: the errors of each number add up to the number of errors that the module pass finds.
 pub errors_all : (t names dialect : List ℕ)
     → sum_of (error_counts (numbers_of (errors_of t names dialect))) ≡ length (errors_of t names dialect)
-errors_all = theorem-totals.errors_all
+errors_all = theorem_totals.errors_all
 
 -- "sums saturate at 64 bits in the definition, and from zeros this never happens": what a file adds
 -- In words: a file that a step accepts adds at most `most_added` to a counter.
@@ -178,7 +178,7 @@ pub file_few : (window figures : List ℕ)
     → step_of window figures ≡ Taken n
     → (i : ℕ)
     → get_or (figures_of (content_at window)) i 0 ≤ most_added
-file_few = theorem-bounds.file_few
+file_few = theorem_bounds.file_few
 
 -- sums that never saturate: a step
 -- In words: for 32 counters, with at most 4,294,967,295 files and no counter above `most_added` for each file, a step
@@ -193,7 +193,7 @@ pub step_plain : (window figures : List ℕ)
     → (i : ℕ)
     → get_or (figures_after window figures) i 0 ≡ get_or figures i 0 + get_or (figures_of (content_at window)) i 0
 step_plain window figures some takes all files others =
-    theorem-bounds.step_plain window figures some takes record { all = all; files = files; others = others }
+    theorem_bounds.step_plain window figures some takes record { all = all; files = files; others = others }
 
 -- sums that never saturate: the counters of every report
 -- In words: a report has 32 counters, at most 4,294,967,295 files, and no counter above `most_added` for each file.
@@ -202,10 +202,10 @@ pub figures_small : (input : List ℕ)
     × (get_or (report_of input).figures 0 0 ≤ most_files)
     × ((i : ℕ) → get_or (report_of input).figures i 0 ≤ most_added * get_or (report_of input).figures 0 0)
 figures_small input =
-    let small = theorem-bounds.figures_small input in
+    let small = theorem_bounds.figures_small input in
     (small.all, small.files, small.others)
 
 -- sums that never saturate: 64 bits are enough
 -- In words: every counter of a report is below 2^64.
 pub figures_fit : (input : List ℕ) (i : ℕ) → get_or (report_of input).figures i 0 < 2 ^ 64
-figures_fit = theorem-bounds.figures_fit
+figures_fit = theorem_bounds.figures_fit

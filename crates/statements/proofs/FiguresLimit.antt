@@ -1,7 +1,7 @@
 -- W-214, THE LINE'S FIGURES: NO FILE AFTER 4,294,967,295 FILES
 --
--- The theorem of the crate `figures` about 76: `step_of` and `figures_after` are what `figures::step` answers and leaves
--- in the counters. Assumes nothing.
+-- The theorem of the crate `figures` about 76: `step_of` and `figures_after` are what `figures::step` answers and
+-- leaves in the counters. Assumes nothing.
 use mathlib.Core.Path.{◌≡◌}
 use mathlib.Core.List.{List}
 use Prim.Native.Nat.{ℕ, ◌≤◌}

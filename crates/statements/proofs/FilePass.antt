@@ -16,7 +16,7 @@ use Rattle.validate.specs.Job.{errors_of}
 use Rattle.filepass.specs.Sizes.{enough_bytes, enough_words}
 use Rattle.filepass.specs.Passing.{answer_of, words_after}
 use Rattle.filepass.proofs.Theorems as theorem
-use Rattle.filepass.proofs.Enough as theorem-enough
+use Rattle.filepass.proofs.Enough as theorem_enough
 
 -- "A refusal prints one line": a file that the reader refuses
 -- In words: its answer is the reader's refusal, and the list of words is unchanged.
@@ -64,7 +64,7 @@ edition_ignored = theorem.edition_ignored
 pub read_enough : (file xs : List ℕ)
     → (answer_of (take enough_bytes file) ≡ answer_of file)
     × (words_after (take enough_bytes file) xs ≡ words_after file xs)
-read_enough = theorem-enough.read_enough
+read_enough = theorem_enough.read_enough
 
 -- so the program may read into one buffer of that size
 -- In words: if the first len bytes of a buffer are the file, or its first `enough_bytes` bytes, the answer for them is
@@ -82,8 +82,9 @@ pub into_enough : (file t ns : List ℕ)
     → (into_check (take enough_bytes file) (length t) (length ns) ≡ into_check file (length t) (length ns))
     × (handed (into_check (take enough_bytes file) (length t) (length ns)) (content_at (take enough_bytes file)).table t
     ≡ handed (into_check file (length t) (length ns)) (content_at file).table t)
-    × (handed (into_check (take enough_bytes file) (length t) (length ns)) (content_at (take enough_bytes file)).names ns
+    × (handed (into_check (take enough_bytes file) (length t) (length ns))
+    (content_at (take enough_bytes file)).names ns
     ≡ handed (into_check file (length t) (length ns)) (content_at file).names ns)
 into_enough file t ns =
-    let x = theorem-enough.into_enough file t ns in
+    let x = theorem_enough.into_enough file t ns in
     (x.0, x.1.0, x.1.1)

@@ -13,7 +13,7 @@ use Rattle.soundness.specs.Files.{any_file, record_at, root_statements, files_so
 use Rattle.soundness.specs.Sound.{context, sound_at, root_sound, first_unsound}
 use Rattle.soundness.specs.FileCases.{Case, file_cases}
 use Rattle.soundness.proofs.Files as theorem
-use Rattle.soundness.proofs.FileCases as theorem-cases
+use Rattle.soundness.proofs.FileCases as theorem_cases
 
 -- "every record under a top-level statement carries that statement's number. A root Statements has 0 itself; any other
 -- root is the top-level statement."
@@ -51,4 +51,4 @@ subtree_file = theorem.subtree_file
 -- In words: in each of the small tables with 0, 1, 999 and 1000 at the root, at a statement and under it, with two
 -- files, and with two faults, the first unsound record is the one that the case shows.
 pub file_cases_lem : map (λ (c : Case). first_unsound c.table []) file_cases ≡ map (λ (c : Case). c.unsound) file_cases
-file_cases_lem = theorem-cases.file_cases_lem
+file_cases_lem = theorem_cases.file_cases_lem

@@ -94,7 +94,8 @@ pub written_names : (t names ds : List ℕ) (e : Stated) (buffer : List ℕ) {n 
     → (room-t room-n : List ℕ)
     → length t ≤ length room-t
     → length names ≤ length room-n
-    → names_after (take n (file_after (holding t names ds e) buffer)) room-t room-n ≡ names ++ drop (length names) room-n
+    → names_after (take n (file_after (holding t names ds e) buffer)) room-t room-n ≡ names
+    ++ drop (length names) room-n
 written_names = theorem.written_names
 
 -- and the word of the edition

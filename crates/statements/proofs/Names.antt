@@ -11,7 +11,7 @@ use Rattle.forest.specs.Forest.{forest, nodes}
 use Rattle.forest.specs.Names.{same}
 use Rattle.forest.proofs.Stretch.{records}
 use Rattle.forest.proofs.Named as theorem
-use Rattle.forest.proofs.Stretch as theorem-records
+use Rattle.forest.proofs.Stretch as theorem_records
 
 -- "Names are equal when their bytes are."
 -- In words: the test of names holds for a name and itself.
@@ -26,4 +26,4 @@ same_bytes_equal = theorem.same_bytes_equal
 -- "A lent table of 24-byte records in preorder"
 -- In words: whatever the bytes, the nodes of the forest are the records of the bytes, each once and in order.
 pub nodes_records : (i : ℕ) (bs : List ℕ) → nodes (forest i bs) ≡ records (length bs / 24) i bs
-nodes_records = theorem-records.nodes_records
+nodes_records = theorem_records.nodes_records

@@ -23,8 +23,8 @@ use Rattle.namesakes.specs.Job.{labelled_at, namesakes_of, list_after}
 use Rattle.namesakes.specs.Said.{node_of, Alike}
 use Rattle.namesakes.specs.Example.{table, names, room}
 use Rattle.namesakes.proofs.Theorems as theorem
-use Rattle.namesakes.proofs.Exchanging as theorem-exchanging
-use Rattle.namesakes.proofs.Example as theorem-example
+use Rattle.namesakes.proofs.Exchanging as theorem_exchanging
+use Rattle.namesakes.proofs.Example as theorem_example
 
 -- "None is reported exactly when every argument that has the name of an ordinary parameter reaches that parameter."
 -- In words: for a call and a def that both jobs accept, the number of reports is 0 if and only if the word of each
@@ -120,7 +120,7 @@ pub exchange_is_reported : (t names : List ℕ) (call other def : ℕ) (words : 
     ≡ node_of y ∷ l ∷ j ∷ node_of x ∷ [])))))
 exchange_is_reported t names call other def words bound list none fits alike j l apart a b a_at b_at r s a-is b_is p q
     p-at q-at p-mode q-mode a-name b-name x y x-at y-at x-name y-name =
-    let e = theorem-exchanging.exchange_is_reported t names call other def words bound list none j l (record {
+    let e = theorem_exchanging.exchange_is_reported t names call other def words bound list none j l (record {
       is_acall = fits;
       alike = alike;
       apart = apart;
@@ -169,4 +169,4 @@ pub exchanged_example : (namesakes_of table names 7 1 8 ≡ accepted (0 ∷ []))
     × (namesakes_of table names 14 1 8 ≡ accepted (2 ∷ []))
     × (namesakes_of table names 14 1 7 ≡ refused short_buffer [])
     × (list_after table names 14 1 room ≡ 16 ∷ 0 ∷ 1 ∷ 18 ∷ 18 ∷ 1 ∷ 0 ∷ 16 ∷ 7 ∷ [])
-exchanged_example = theorem-example.example
+exchanged_example = theorem_example.example

@@ -23,9 +23,9 @@ use Rattle.validate.specs.Job.{errors_of, module_of, errors_after}
 use Rattle.opening.specs.Opening.{permits_all, opened, without}
 use Rattle.opening.specs.Example.{if_break, closed, top_level_open}
 use Rattle.opening.proofs.Theorems as theorem
-use Rattle.opening.proofs.OverTheJob as theorem-job
-use Rattle.opening.proofs.Order as theorem-order
-use Rattle.opening.proofs.Example as theorem-example
+use Rattle.opening.proofs.OverTheJob as theorem_job
+use Rattle.opening.proofs.Order as theorem_order
+use Rattle.opening.proofs.Example as theorem_example
 
 -- "opening a dialect must not break a script": any trees
 -- In words: if the second dialect permits all that the first does, trees with no errors under the first have none under
@@ -56,7 +56,7 @@ pub zero_stays : (t names first second : List ℕ) {d e : Dialect}
     → permits_all d e ≡ true
     → module_of t names first ≡ accepted (0 ∷ [])
     → module_of t names second ≡ accepted (0 ∷ [])
-zero_stays = theorem-job.zero_stays
+zero_stays = theorem_job.zero_stays
 
 -- the errors that are left: the job
 -- In words: if both also agree on top-level statements, the errors of a table under the second are those under the
@@ -67,7 +67,7 @@ pub errors_opened : (t names first second : List ℕ) {d e : Dialect}
     → permits_all d e ≡ true
     → d.enable_top_level_stmt ≡ e.enable_top_level_stmt
     → errors_of t names second ≡ without (opened d e) (errors_of t names first)
-errors_opened = theorem-job.errors_opened
+errors_opened = theorem_job.errors_opened
 
 -- the errors that are left: the answer
 -- In words: the answer is the number of the errors that are left, or the same refusal.
@@ -78,7 +78,7 @@ pub total_opened : (t names first second : List ℕ) {d e : Dialect}
     → d.enable_top_level_stmt ≡ e.enable_top_level_stmt
     → module_of t names second
     ≡ in_given (given_of t names first) (λ _. accepted (length (without (opened d e) (errors_of t names first)) ∷ []))
-total_opened = theorem-job.total_opened
+total_opened = theorem_job.total_opened
 
 -- the errors that are left: the words of the list
 -- In words: a list of words with room for the errors under the first holds at exit those that are left, and its other
@@ -93,7 +93,7 @@ pub words_opened : (t names first second : List ℕ) {d e : Dialect}
     → errors_after t names second ws
     ≡ all_words Module (without (opened d e) (errors_of t names first))
     ++ drop (width Module * length (without (opened d e) (errors_of t names first))) ws
-words_opened = theorem-job.words_opened
+words_opened = theorem_job.words_opened
 
 -- the order of dialects is the order of the bytes that people type
 -- In words: for nine valid bytes each, if the second dialect permits all that the first does, every byte of the first
@@ -106,7 +106,7 @@ pub opening_bytes : (first second : List ℕ) {d e : Dialect}
     → permits_all d e ≡ true
     → (i : ℕ)
     → get_or first i 0 ≤ get_or second i 0
-opening_bytes = theorem-job.opening_bytes
+opening_bytes = theorem_job.opening_bytes
 
 -- the order of dialects is the order of the bytes that people type: the converse
 -- In words: for nine valid bytes each, if every byte of the first is at most that of the second, the second dialect
@@ -118,23 +118,23 @@ pub bytes_opening : (first second : List ℕ) {d e : Dialect}
     → from_bytes second ≡ Valid e
     → ((i : ℕ) → get_or first i 0 ≤ get_or second i 0)
     → permits_all d e ≡ true
-bytes_opening = theorem-job.bytes_opening
+bytes_opening = theorem_job.bytes_opening
 
 -- "permits all" is an order: reflexive
 -- In words: every dialect permits all that it permits.
 pub order_self : (d : Dialect) → permits_all d d ≡ true
-order_self = theorem-order.order_self
+order_self = theorem_order.order_self
 
 -- "permits all" is an order: transitive
 -- In words: a dialect that permits all that a second does, which permits all that a third does, permits all that the
 -- third does.
 pub order_on : (c d e : Dialect) → permits_all c d ≡ true → permits_all d e ≡ true → permits_all c e ≡ true
-order_on = theorem-order.order_on
+order_on = theorem_order.order_on
 
 -- "permits all" is an order: antisymmetric
 -- In words: two dialects of which each permits all that the other does are the same.
 pub order_one : (d e : Dialect) → permits_all d e ≡ true → permits_all e d ≡ true → d ≡ e
-order_one = theorem-order.order_one
+order_one = theorem_order.order_one
 
 -- "permits all" is an order: antisymmetric on nine valid bytes
 -- In words: two rows of nine valid bytes whose dialects permit all of each other are the same bytes.
@@ -144,7 +144,7 @@ pub bytes_one : (first second : List ℕ)
     → permits_all (record_of first) (record_of second) ≡ true
     → permits_all (record_of second) (record_of first) ≡ true
     → first ≡ second
-bytes_one = theorem-order.bytes_one
+bytes_one = theorem_order.bytes_one
 
 -- "Standard below Extended below AllOptionsInternal, in this direction alone"
 -- In words: for each of the three named dialects, which of the three permit all that it does.
@@ -153,7 +153,7 @@ pub named_order : map
     map (permits_all d) (dialect_named Standard ∷ dialect_named Extended ∷ dialect_named AllOptionsInternal ∷ []))
     (dialect_named Standard ∷ dialect_named Extended ∷ dialect_named AllOptionsInternal ∷ [])
     ≡ (true ∷ true ∷ true ∷ []) ∷ (false ∷ true ∷ true ∷ []) ∷ (false ∷ false ∷ true ∷ []) ∷ []
-named_order = theorem-order.named_order
+named_order = theorem_order.named_order
 
 -- why both dialects have to agree on top-level statements
 -- In words: for `if 1: break`, in Standard and in Standard with top-level statements, no choice of numbers makes the
@@ -161,4 +161,4 @@ named_order = theorem-order.named_order
 pub not_tied : (out : ℕ → Bool)
     → errors_of if_break [] top_level_open ≡ without out (errors_of if_break [] closed)
     → ⊥
-not_tied = theorem-example.not_tied
+not_tied = theorem_example.not_tied

@@ -19,7 +19,7 @@ use Rattle.opening.specs.Example.{closed}
 use Rattle.audit.specs.Job.{all_errors, audit_of}
 use Rattle.openaudit.specs.Example.{bad_type, bad_names, types_open}
 use Rattle.openaudit.proofs.Theorems as theorem
-use Rattle.openaudit.proofs.Example as theorem-example
+use Rattle.openaudit.proofs.Example as theorem_example
 
 -- "`errors 0` stays `errors 0`": every job
 -- In words: for any bytes that mean two dialects, of which the second permits all that the first does, an audit that
@@ -63,4 +63,4 @@ audit_total_opened = theorem.audit_total_opened
 pub not_tied : (out : ℕ → Bool)
     → all_errors bad_type bad_names types_open 1 ≡ without out (all_errors bad_type bad_names closed 1)
     → ⊥
-not_tied = theorem-example.not_tied
+not_tied = theorem_example.not_tied

@@ -22,16 +22,16 @@ use Rattle.deflist.specs.Reached.{reached, AllAtMost}
 use Rattle.deflist.specs.Twice.{index_of}
 use Rattle.parameters.specs.Params.{list_of, params_of, modes_after, AllBelow}
 use Rattle.parameters.proofs.Accepted as theorem
-use Rattle.parameters.proofs.Buffer as theorem-buffer
-use Rattle.parameters.proofs.Twice as theorem-twice
-use Rattle.parameters.proofs.Files as theorem-files
+use Rattle.parameters.proofs.Buffer as theorem_buffer
+use Rattle.parameters.proofs.Twice as theorem_twice
+use Rattle.parameters.proofs.Files as theorem_files
 
 -- "No refusal changes a buffer": modes
 -- In words: if the job refuses, the mode buffer at exit is the buffer at entry.
 pub refusal_keeps : (t names : List ℕ) (node : ℕ) (modes : List ℕ) {n : ℕ} {vs : List ℕ}
     → params_of t names node (length modes) ≡ refused n vs
     → modes_after t names node modes ≡ modes
-refusal_keeps = theorem-buffer.refusal_keeps
+refusal_keeps = theorem_buffer.refusal_keeps
 
 -- "Too many parameters" and the unwraps of def.rs cannot fire: in a table that passes the check
 -- In words: the list of a Def or Lambda of a sound table has fewer than 2,100 parameters.
@@ -60,7 +60,7 @@ accepted_small = theorem.accepted_small
 -- In words: 11 carries five numbers, and any other refusal of the parameter job at most four.
 pub params_carries : (t names : List ℕ) (node room : ℕ)
     → OnlyCarries duplicated_parameter (params_of t names node room)
-params_carries = theorem-twice.params_carries
+params_carries = theorem_twice.params_carries
 
 -- W-203: "The search for an equal earlier name shall answer the first such name's position."
 -- In words: 11 carries the node and span of a parameter of the list and then an earlier node. Of the parameters read
@@ -81,7 +81,7 @@ pub params_twice : (t names : List ℕ) (node room : ℕ) {vs : List ℕ}
     × NonePasses (has_name name) after
     × (i < r.at)
 params_twice t names node room e =
-    let x = theorem-twice.params_twice t names node room e in
+    let x = theorem_twice.params_twice t names node room e in
     let w = x.1.1.1 in
     let f = w.earlier in (
       x.0,
@@ -115,6 +115,6 @@ pub params_file : (t names : List ℕ) (i room : ℕ) {n : ℕ} {vs : List ℕ}
     × (get_or vs 3 0 ≡ field 2 (drop (24 * get_or vs 0 0) t) 18)
     × (get_or vs 3 0 ≡ field 2 (drop (24 * i) t) 18)
 params_file t names i room {n} {vs} e late =
-    let told : CarriesFile t i (refused n vs) = rw e at (theorem-files.params_files t names i room) in
+    let told : CarriesFile t i (refused n vs) = rw e at (theorem_files.params_files t names i room) in
     let f = told late in
     (f.there, f.named, f.same)

@@ -20,7 +20,7 @@ use Rattle.audit.specs.Job.{audit_errors}
 use Rattle.parts.specs.Parts.{Part, joined, Kept, under, audit_module, read, read_in_turn, how_many}
 use Rattle.parts.specs.Example.{root_at, whole_names, in_two, twice, misplaced}
 use Rattle.parts.proofs.Theorems as theorem
-use Rattle.parts.proofs.Example as theorem-example
+use Rattle.parts.proofs.Example as theorem_example
 
 -- "the errors of a root Statements are, up to order, those of its parts": the module pass
 -- In words: if each part's own table has a root Statements and statements that say the same as in the whole, every test
@@ -52,16 +52,16 @@ audit_of_bytes = theorem.audit_of_bytes
 -- an instance: `lambda a, a: 1` and `break`, in two tables
 -- In words: the two parts keep what the two statements say, though names and nodes have other places in their tables.
 pub kept : Kept whole_names in_two
-kept = theorem-example.kept
+kept = theorem_example.kept
 
 -- an instance: the errors of the whole
 -- In words: 55 is reported before 11, because the module pass reports statements before expressions.
 pub whole_reads :
     read (validate_module (record_of (row_named Extended)) whole_names (under (root_at 0 20 7) (joined in_two)))
     ≡ misplaced ∷ twice ∷ []
-whole_reads = theorem-example.whole_reads
+whole_reads = theorem_example.whole_reads
 
 -- an instance: the errors of the parts, in turn
 -- In words: 11 comes before 55, so the order of the whole is not kept.
 pub parts_read : read_in_turn (validate_module (record_of (row_named Extended))) in_two ≡ twice ∷ misplaced ∷ []
-parts_read = theorem-example.parts_read
+parts_read = theorem_example.parts_read

@@ -27,7 +27,7 @@ use Rattle.rescue.specs.Good.{head_good, blocks_pass, good_table}
 use Rattle.rescue.specs.Cut.{children, cut_to}
 use Rattle.rescue.specs.Job.{table_kept, kept, statements_of, rescue_of, file_after, rescued}
 use Rattle.rescue.proofs.Theorems as theorem
-use Rattle.rescue.proofs.Numbered as theorem-numbered
+use Rattle.rescue.proofs.Numbered as theorem_numbered
 
 -- "the largest number of leading children of a root Statements, within its written size, whose records all stand in
 -- good node blocks before the first bad or missing one, such that the cut table passes 1 to 4"
@@ -40,7 +40,8 @@ pub largest_number : (bs buffer : List ℕ) (r : Rescued) (after : List ℕ)
     → r ≡ Accepted k
     → blocks_pass bs ≡ false
     → (1 ≤ k.statements)
-    × ((((node_of 0 (good_table bs)).kind ≡ kind_statements) × (k.statements ≤ length (roots (children (good_table bs))))
+    × ((((node_of 0 (good_table bs)).kind ≡ kind_statements)
+    × (k.statements ≤ length (roots (children (good_table bs))))
     × (check_of (cut_to k.statements (good_table bs)) (content_at bs).names ≡ accepted []))
     × ((table_kept bs ≡ cut_to k.statements (good_table bs))
     × ((j : ℕ)
@@ -187,7 +188,7 @@ pub kept_files : (bs buffer : List ℕ) (r : Rescued) (after : List ℕ)
     → (k : Kept)
     → r ≡ Accepted k
     → files_sound (forest 0 (table_kept bs)) ≡ true
-kept_files bs buffer r after a b = theorem-numbered.kept_files bs buffer r after (a, b)
+kept_files bs buffer r after a b = theorem_numbered.kept_files bs buffer r after (a, b)
 
 -- W-208: "A root Statements has 0 itself"
 -- In words: if the header is good and the blocks do not pass, a root with a file number is refused with 91.
@@ -198,7 +199,7 @@ pub numbered_root : (bs buffer : List ℕ) (r : Rescued) (after : List ℕ)
     → blocks_pass bs ≡ false
     → ((node_of 0 (good_table bs)).file ≡ 0 → ⊥)
     → r ≡ Refused (Bare nothing_kept)
-numbered_root bs buffer r after a b = theorem-numbered.numbered_root bs buffer r after (a, b)
+numbered_root bs buffer r after a b = theorem_numbered.numbered_root bs buffer r after (a, b)
 
 -- W-208: "Files with the old zeros are refused"
 -- In words: if the header is good and the blocks do not pass, a first child with the file number 0 is refused with 91.
@@ -209,4 +210,4 @@ pub old_zeros : (bs buffer : List ℕ) (r : Rescued) (after : List ℕ)
     → blocks_pass bs ≡ false
     → (record_at (good_table bs) 1).file ≡ 0
     → r ≡ Refused (Bare nothing_kept)
-old_zeros bs buffer r after a b = theorem-numbered.old_zeros bs buffer r after (a, b)
+old_zeros bs buffer r after a b = theorem_numbered.old_zeros bs buffer r after (a, b)

@@ -20,8 +20,8 @@ use Rattle.table.specs.Answer.{accepted, refused}
 use Rattle.table.specs.Check.{check_of}
 use Rattle.table.specs.Depth.{most_depth, first_deep, depths}
 use Rattle.table.proofs.Theorems as theorem
-use Rattle.table.proofs.Checking as theorem-checking
-use Rattle.table.proofs.Numbered as theorem-numbered
+use Rattle.table.proofs.Checking as theorem_checking
+use Rattle.table.proofs.Numbered as theorem_numbered
 
 -- "Within all this a table is sound."
 -- In words: a table of 1 to 2,100 whole records, with at most 8,064 name bytes, no unsound record and no node that is
@@ -49,7 +49,7 @@ pub accepted_clean : (t names : List ℕ) {vs : List ℕ}
     × (first_unsound t names ≡ Nothing)
     × (first_deep 0 (forest 0 t) ≡ Nothing)
 accepted_clean t names e =
-    let c = theorem-checking.accepted_clean t names e in
+    let c = theorem_checking.accepted_clean t names e in
     (c.least, c.most, c.whole, c.few, c.unsound, c.deep)
 
 -- "3 the first unsound record": none in an accepted table
@@ -107,7 +107,7 @@ deep_is_counted = theorem.deep_is_counted
 pub accepted_files : (t names : List ℕ) {vs : List ℕ}
     → check_of t names ≡ accepted vs
     → files_sound (forest 0 t) ≡ true
-accepted_files t names e = theorem-numbered.accepted_files t names e
+accepted_files t names e = theorem_numbered.accepted_files t names e
 
 -- "every record under a top-level statement carries that statement's number" (W-208): the same under any node
 -- In words: in an accepted table all records of a node's subtree have the number of that node, unless the node is a
@@ -121,7 +121,7 @@ pub accepted_subtree : (t names : List ℕ) {vs : List ℕ}
     → i ≤ j
     → j < i + size_of (drop (24 * i) t)
     → (record_at t j).file ≡ (record_at t i).file
-accepted_subtree t names e = theorem-numbered.accepted_subtree t names e
+accepted_subtree t names e = theorem_numbered.accepted_subtree t names e
 
 -- "Files with the old zeros are refused, but for a root Statements alone." (W-208)
 -- In words: a table that the check accepts and whose bytes 18 and 19 are all zero is one record, a root Statements.
@@ -129,4 +129,4 @@ pub zeros_alone : (t names : List ℕ) {vs : List ℕ}
     → check_of t names ≡ accepted vs
     → ((j : ℕ) → j < length t / 24 → field 2 (drop (24 * j) t) 18 ≡ 0)
     → (length t ≡ 24) × ((node_of 0 t).kind ≡ kind_statements)
-zeros_alone t names e = theorem-numbered.zeros_alone t names e
+zeros_alone t names e = theorem_numbered.zeros_alone t names e

@@ -1,7 +1,7 @@
 -- THE RULES OF TYPES: 1 TO 7, 40 TO 45
 --
--- Theorems of the crate `types` about the answer of the type job, `type_shape_of`, which `shapes::type_shape` gives. The
--- content of the record `FileOf` is written field by field. Each statement is proved by citing the theorem. Assumes
+-- Theorems of the crate `types` about the answer of the type job, `type_shape_of`, which `shapes::type_shape` gives.
+-- The content of the record `FileOf` is written field by field. Each statement is proved by citing the theorem. Assumes
 -- nothing.
 use mathlib.Core.Path.{◌≡◌}
 use mathlib.Core.List.{List}

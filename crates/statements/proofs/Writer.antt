@@ -23,7 +23,7 @@ use Rattle.writer.specs.declared.Written.{Written}
 use Rattle.writer.specs.declared.Written.TheVariants.{Accepted, Refused}
 use Rattle.writer.specs.Writing.{holding, bytes_for, write_of, file_after, written}
 use Rattle.writer.proofs.RoundTrips as theorem
-use Rattle.writer.proofs.Enough as theorem-enough
+use Rattle.writer.proofs.Enough as theorem_enough
 
 -- "Its output reads back as the same table, names and dialect."
 -- In words: the reader's answer on the bytes that an accepted write has written holds the same table, names, dialect
@@ -201,4 +201,4 @@ pub read_enough : (t names ds : List ℕ) (edition : Stated)
     × ((buffer : List ℕ)
     → file_after (holding (take (suc most_bytes) t) (take (suc most_names) names) (take 10 ds) edition) buffer
     ≡ file_after (holding t names ds edition) buffer)
-read_enough t names ds edition = let x = theorem-enough.read_enough t names ds edition in (x.answer, x.after)
+read_enough t names ds edition = let x = theorem_enough.read_enough t names ds edition in (x.answer, x.after)

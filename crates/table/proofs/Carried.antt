@@ -60,7 +60,8 @@ pub check_before : (m : ℕ) (t names : List ℕ) → 6 < m → Before m (check_
 unfolding check_of
 check_before m t names h =
     before_then m (length_check (length t)) _ (before_test m (length_sound (length t)) table_length (omega arith))
-    (before_then m (names_check (length names)) _ (before_test m (leb (length names) most_names) name_bytes (omega arith))
+    (before_then m (names_check (length names)) _
+    (before_test m (leb (length names) most_names) name_bytes (omega arith))
     (before_then m (none_found unsound_record (first_unsound t names)) _
     (before_found m unsound_record (first_unsound t names) (omega arith))
     (before_found m too_deep (first_deep 0 (forest 0 t)) (omega arith))))

@@ -2,8 +2,8 @@
 -- class (`weighed`, `weight_little`). So n nodes at depth d reach at most d + n, and code skips a stretch with too few
 -- records (`few_not_deep`; the induction is on the forest). The loop over siblings keeps that the search in what is
 -- left gives the whole answer (`Searching`): the first node is too deep itself (`deep_here`), one below it is
--- (`deep_below`), or the rest decides (`deep_on`). A node that is found is one of the stretch (`deep_inside`, by
--- `forest_induction`). Assumes nothing.
+-- (`deep_below`), or the rest decides (`deep_on`; `deep_few` where too few records are below it). A node that is
+-- found is one of the stretch (`deep_inside`, by `forest_induction`). Assumes nothing.
 use mathlib.Core.Path.{◌≡◌, refl, sym, ap, ◌∙◌}
 use mathlib.Core.Bool.{Bool, true, false}
 use mathlib.Core.List.{List}
@@ -131,6 +131,15 @@ module _ {t : List ℕ} {at d : ℕ} where
           shallow = s.shallow;
           same = sym (cut ∙ rw f refl);
         }
+
+      -- below a node that has too few records under it nothing is too deep
+      pub deep_few : d + w ≤ 64 → {e : ℕ} → e ≡ span_of left → d + w + e / 24 ≤ 64
+          → Searching t at d (take (length left - e) (drop e left)) (i + e / 24)
+      deep_few h {e} e-is few =
+          let kids : length (take (e - 24) (drop 24 left)) / 24 ≤ e / 24 = simp length-take (omega arith) in
+          let below = few_not_deep (d + w) (forest (i + 1) (take (e - 24) (drop 24 left)))
+          (rw (count_forest (i + 1) (take (e - 24) (drop 24 left))) (omega arith)) in
+          deep_on h e-is Nothing (sym below) refl
 
 -- LAW: a node that is too deep is one of the stretch
 pub deep_inside : (i : ℕ) (bs : List ℕ) (d k : ℕ) → first_deep d (forest i bs) ≡ At k → k < i + length bs / 24

@@ -18,9 +18,12 @@ use Rattle.table.proofs.Checking.{Clean, accepted_clean}
 
 -- the check accepts the table
 pub sound : check_of table names ≡ accepted []
-unfolding check_of length_sound field size_of kids_of rest_of forest_in forest count count_tree same kind_in kind_of name_sound
-    span_sound source_sound fields_sound whole_trees classes permitted wanted permits kids_sound sound_node sound_at root_sound
-    file_sound ends_by top_of files_of context_of record_sound first_false first_unsound class_weight weight first_deep deep_in
+unfolding check_of length_sound field size_of kids_of rest_of forest_in forest count count_tree same kind_in kind_of
+    name_sound
+    span_sound source_sound fields_sound whole_trees classes permitted wanted permits kids_sound sound_node sound_at
+    root_sound
+    file_sound ends_by top_of files_of context_of record_sound first_false first_unsound class_weight weight first_deep
+    deep_in
 sound = refl
 
 -- so it has a sound length, few name bytes, no unsound record and no node that is too deep

@@ -95,7 +95,8 @@ module _ (t names bytes : List ℕ) where
       go (turned_away n vs) = refl
 
   -- LAW: 5 for the edition comes after 1 to 5 for the dialect bytes
-  pub rules_unknown : rules_check t names bytes Unknown ≡ and_then (given_check t names bytes) (λ _. refused bad_dialect [])
+  pub rules_unknown : rules_check t names bytes Unknown
+      ≡ and_then (given_check t names bytes) (λ _. refused bad_dialect [])
   unfolding rules_of
   rules_unknown = go (given_of t names bytes)
     where

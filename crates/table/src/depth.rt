@@ -44,9 +44,12 @@ pub(crate) fn deep_from(t: &[u8], at: usize, depth: usize) -> Found
             return Found::At(i);
         }
         let e = forest::span(left);
-        let below = deep_from(&left[RECORD..e], i + 1, here);
-        if let Found::At(j) = below {
-            return Found::At(j);
+        // a call for each small subtree would cost more than this test
+        if MOST_DEPTH < here + e / RECORD {
+            let below = deep_from(&left[RECORD..e], i + 1, here);
+            if let Found::At(j) = below {
+                return Found::At(j);
+            }
         }
         left = &left[e..];
         i += e / RECORD;

@@ -1,5 +1,7 @@
 // The check of a node table (1 to 4), the checks shared by all jobs on a node (6) or in a dialect (5), the stretch of a
 // node, and the type of refusals.
+#![tactic(auto)]
+
 mod depth;
 pub mod named;
 pub mod numbers;
@@ -18,7 +20,7 @@ use forest::{Found, RECORD};
 use soundness::{classes, kinds};
 
 // A part of a script: from `begin` to before `end`, in the source file of this number.
-#[derive(Drop)]
+#[derive(Clone, Copy)]
 pub struct Span {
     pub begin: u32,
     pub end: u32,
@@ -33,14 +35,14 @@ pub const MOST_BYTES: usize = RECORD * MOST_NODES;
 pub const MOST_NAMES: usize = 8064;
 
 // A place in a list, or a node of the table, counted from 0; or none.
-#[derive(Drop)]
+#[derive(Clone, Copy)]
 pub enum Place {
     At(u32),
     Nothing,
 }
 
 // A span, or none.
-#[derive(Drop)]
+#[derive(Clone, Copy)]
 pub enum Extent {
     Of(Span),
     Nothing,
@@ -48,7 +50,7 @@ pub enum Extent {
 
 // Why a job refuses: a number, and what it carries: nothing, the node, or the node with its span and, for a repeated
 // name, the earlier node.
-#[derive(Drop)]
+#[derive(Clone, Copy)]
 pub enum Refusal {
     Bare(u32),
     Placed {
@@ -64,28 +66,28 @@ pub enum Refusal {
 }
 
 // The answer of the table check.
-#[derive(Drop)]
+#[derive(Clone, Copy)]
 pub enum Checked {
     Sound,
     Refused(Refusal),
 }
 
 // What a job in a dialect gets: the dialect, or the refusal.
-#[derive(Drop)]
+#[derive(Clone, Copy)]
 pub enum Given {
     In(Dialect),
     Refused(Refusal),
 }
 
 // What a job that reads types gets: the dialect and the edition, or the refusal.
-#[derive(Drop)]
+#[derive(Clone, Copy)]
 pub enum Ruled {
     By { dialect: Dialect, edition: Edition },
     Refused(Refusal),
 }
 
 // The kinds of node that a job accepts.
-#[derive(Drop)]
+#[derive(Clone, Copy)]
 pub enum Wanted {
     Parameters,
     Call,
@@ -94,7 +96,7 @@ pub enum Wanted {
 }
 
 // The entries of a list.
-#[derive(Drop)]
+#[derive(Clone, Copy)]
 pub enum Entries {
     Parameters,
     Arguments,

@@ -1,118 +1,140 @@
 // Checks the table file that its argument names, or standard input if there is none. It prints `nodes N`, a line
 // `number file begin end` for each error and `errors N`; or, for a refused file, the one line `refused K`. It only
 // reads and prints; the answer is that of the library, filepass.
+#![tactic(auto)]
+
 use errors::WIDTH;
 use filepass::{ENOUGH_BYTES, ENOUGH_WORDS, Passed};
-use libc::{STDIN_FILENO, STDOUT_FILENO};
+use std::env::{Env, FillError};
+use std::fs::File;
+use std::io::{self, Read};
+use std::str;
 
-// The result of reading: the number of bytes, or a failed read.
-#[derive(Drop)]
-enum Got {
-    Bytes(usize),
-    Failed,
-}
+// The length of the longest file name.
+const MOST_NAME: usize = 4096;
 
-fn main() {
-    if os::arg_count() < 2 {
-        check(STDIN_FILENO, b"standard input");
-        return;
+// The system's numbers of the reasons why an argument names no file: it is too long, or not text.
+const NAME_TOO_LONG: i32 = 36;
+
+const NOT_TEXT: i32 = 84;
+
+fn main(rt: HostRuntime) -> io::Result<()> {
+    let mut path = [0u8; MOST_NAME];
+    let k = match rt.arg(1, &mut path) {
+        Ok(k) => k,
+        Err(FillError::NotPresent) => return check(&rt, &mut rt.stdin(), "standard input"),
+        Err(FillError::TooLong) => return no_name(&rt, NAME_TOO_LONG),
+    };
+    let Ok(name) = str::from_utf8(&path[..k]) else {
+        return no_name(&rt, NOT_TEXT);
+    };
+    match File::open(&rt, name) {
+        Ok(mut file) => check(&rt, &mut file, name),
+        Err(why) => fail(&rt, name, why),
     }
-    let mut path = io::buffer();
-    let k = os::arg(1, &mut path);
-    if os::errno() != 0 {
-        os::fail(b"the file's name");
-        return;
-    }
-    let fd = os::open_read(&path[..k]);
-    if fd < 0 {
-        os::fail(&path[..k]);
-        return;
-    }
-    check(fd, &path[..k]);
-    libc::close(fd);
 }
 
 // Reads the file, or as many bytes as decide the answer, and reports on it.
-fn check(fd: i32, name: &[u8]) {
+fn check(
+    rt: &(impl Print + Eprint + AllocGlobal),
+    input: &mut impl Read,
+    name: &str,
+) -> io::Result<()> {
     let mut file = [0u8; ENOUGH_BYTES];
-    let got = fill(fd, &mut file);
+    let got = fill(input, &mut file);
     match got {
-        Got::Bytes(n) => report(&file, n),
-        Got::Failed => os::fail(name),
+        Ok(n) => report(rt, &file, n),
+        Err(why) => fail(rt, name, why),
     }
 }
 
-// Reads until the buffer is full or the input ends. A failed read is not taken for the end.
-fn fill(fd: i32, file: &mut [u8]) -> Got {
+// Reads until the buffer is full or the input ends, and returns the number of bytes. A failed read is not taken for
+// the end.
+fn fill(input: &mut impl Read, file: &mut [u8]) -> io::Result<usize> {
     let mut done = 0;
     while done < file.len() {
-        let got = libc::read(fd, &mut file[done..]);
-        if got < 0 {
-            return Got::Failed;
-        }
-        let more = io::count(got, &file[done..]);
+        let more = input.read(&mut file[done..])?;
         if more == 0 {
-            return Got::Bytes(done);
+            return Ok(done);
         }
         done += more;
     }
-    Got::Bytes(done)
+    Ok(done)
 }
 
 // Prints the answer for the first `len` bytes. The list has room for all errors. The line of a refusal has its number
 // alone, even if it carries a node.
-fn report(file: &[u8; ENOUGH_BYTES], len: usize) {
+fn report(rt: &impl Print, file: &[u8; ENOUGH_BYTES], len: usize) -> io::Result<()> {
     let mut errors = [0u32; ENOUGH_WORDS];
     let passed = filepass::check_read(file, len, &mut errors);
     match passed {
         Passed::Listed { nodes, total } => {
-            say_line(b"nodes ", nodes as u64);
-            say_errors(&errors, total);
-            say_line(b"errors ", total as u64);
+            say_line(rt, b"nodes ", nodes as u64)?;
+            say_errors(rt, &errors, total)?;
+            say_line(rt, b"errors ", total as u64)
         }
-        Passed::Refused(why) => say_line(b"refused ", table::number(why) as u64),
+        Passed::Refused(why) => say_line(rt, b"refused ", table::number(why) as u64),
     }
 }
 
 // Prints a line for each error, with its words.
-fn say_errors(errors: &[u32; ENOUGH_WORDS], total: u32) {
+fn say_errors(rt: &impl Print, errors: &[u32; ENOUGH_WORDS], total: u32) -> io::Result<()> {
     let mut left: &[u32] = errors;
     let mut more = total;
     while 0 < more {
         if left.len() < WIDTH {
-            return;
+            return Ok(());
         }
-        say_words(&left[0..WIDTH]);
+        say_words(rt, &left[0..WIDTH])?;
         left = &left[WIDTH..];
         more -= 1;
     }
+    Ok(())
 }
 
 // Prints words on a line, separated by spaces.
-fn say_words(words: &[u32]) {
+fn say_words(rt: &impl Print, words: &[u32]) -> io::Result<()> {
     let n = words.len();
     let mut i = 0;
     while i < n {
-        say_word(words[i], i);
+        say_word(rt, words[i], i)?;
         i += 1;
     }
-    say(b"\n");
+    say(rt, b"\n")
 }
 
 // Prints a word, with a space before it unless it is the first.
-fn say_word(word: u32, place: usize) {
+fn say_word(rt: &impl Print, word: u32, place: usize) -> io::Result<()> {
     if 0 < place {
-        say(b" ");
+        say(rt, b" ")?;
     }
-    io::print_decimal(STDOUT_FILENO, word as u64);
+    say_number(rt, word as u64)
 }
 
-fn say_line(text: &[u8], n: u64) {
-    say(text);
-    io::print_decimal(STDOUT_FILENO, n);
-    say(b"\n");
+fn say_line(rt: &impl Print, text: &[u8], n: u64) -> io::Result<()> {
+    say(rt, text)?;
+    say_number(rt, n)?;
+    say(rt, b"\n")
 }
 
-fn say(text: &[u8]) {
-    io::write_all(STDOUT_FILENO, text);
+fn say_number(rt: &impl Print, n: u64) -> io::Result<()> {
+    rt.print(n)
+}
+
+fn say(rt: &impl Print, text: &[u8]) -> io::Result<()> {
+    rt.write_all(text)
+}
+
+// Reports that the argument names no file, and why.
+fn no_name(rt: &(impl Eprint + AllocGlobal), why: i32) -> io::Result<()> {
+    fail(rt, "the file's name", io::Error::from_raw_os_error(why))
+}
+
+// Writes a line to standard error: what failed, a colon, and why in the system's words, without the number after them.
+fn fail(rt: &(impl Eprint + AllocGlobal), what: &str, why: io::Error) -> io::Result<()> {
+    let text = format!(in rt.alloc(); "{why}")?;
+    match text.split_once(" (os error ") {
+        Some((words, _)) => eprintln!(rt; "{what}: {words}"),
+        None => eprintln!(rt; "{what}: {text}"),
+    }
 }

@@ -3,11 +3,16 @@
 // `refused NUMBER POSITION`. It only reads and prints; what a file adds is decided by the library, figures::step. The
 // buffer holds two windows: a step sees at least one window, or all that is left, and bytes are moved only if less
 // than a window is unread. If a read fails, no report is printed.
+#![tactic(auto)]
+
 use blocks::BLOCK_BYTES;
 use figures::{
     CALLS_ACCEPTED, CALLS_REFUSED, ERRORS, FIGURES, FILES, LISTS, MODES, NODES, Stepped,
 };
-use libc::{STDIN_FILENO, STDOUT_FILENO};
+use std::env::{Env, FillError};
+use std::fs::File;
+use std::io::{self, Read};
+use std::str;
 use tablefile::MOST_BLOCKS;
 
 // The length of the largest table file: a step reads no more of its input.
@@ -15,95 +20,91 @@ const WINDOW: usize = BLOCK_BYTES * MOST_BLOCKS;
 
 const BUFFER: usize = 2 * WINDOW;
 
+// The length of the longest file name.
+const MOST_NAME: usize = 4096;
+
+// The system's numbers of the reasons why an argument names no file: it is too long, or not text.
+const NAME_TOO_LONG: i32 = 36;
+
+const NOT_TEXT: i32 = 84;
+
 // The result of a turn: `left` bytes remain in the buffer, the first of them at position `at` of the input; the whole
 // input is counted; a file is refused at a position of the input; or a read failed.
-#[derive(Drop)]
+#[derive(Clone, Copy)]
 enum Turn {
     On { left: usize, at: u64 },
     Whole,
     Refused { number: u32, at: u64 },
-    Failed,
+    Failed(io::Error),
 }
 
 // The result of the steps over the buffer: they need more bytes from a place on, or a file is refused there.
-#[derive(Drop)]
+#[derive(Clone, Copy)]
 enum Went {
     On(usize),
     Stopped(usize, u32),
 }
 
-// The result of reading: the number of bytes in the buffer, or a failed read.
-#[derive(Drop)]
-enum Got {
-    Bytes(usize),
-    Failed,
-}
-
-fn main() {
-    if os::arg_count() < 2 {
-        count(STDIN_FILENO, b"standard input");
-        return;
+fn main(rt: HostRuntime) -> io::Result<()> {
+    let mut path = [0u8; MOST_NAME];
+    let k = match rt.arg(1, &mut path) {
+        Ok(k) => k,
+        Err(FillError::NotPresent) => return count(&rt, &mut rt.stdin(), "standard input"),
+        Err(FillError::TooLong) => return no_name(&rt, NAME_TOO_LONG),
+    };
+    let Ok(name) = str::from_utf8(&path[..k]) else {
+        return no_name(&rt, NOT_TEXT);
+    };
+    match File::open(&rt, name) {
+        Ok(mut file) => count(&rt, &mut file, name),
+        Err(why) => fail(&rt, name, why),
     }
-    let mut path = io::buffer();
-    let k = os::arg(1, &mut path);
-    if os::errno() != 0 {
-        os::fail(b"the file's name");
-        return;
-    }
-    let fd = os::open_read(&path[..k]);
-    if fd < 0 {
-        os::fail(&path[..k]);
-        return;
-    }
-    count(fd, &path[..k]);
-    libc::close(fd);
 }
 
 // Counts the files of an input and prints the figures. A proved loop must end, but an input need not. So the loop
 // counts its turns down from a number that no input uses up.
-fn count(fd: i32, name: &[u8]) {
+fn count(
+    rt: &(impl Print + Eprint + AllocGlobal),
+    input: &mut impl Read,
+    name: &str,
+) -> io::Result<()> {
     let mut buffer = [0u8; BUFFER];
     let mut counters = [0u64; FIGURES];
     let mut held = 0;
     let mut position = 0u64;
     let mut turns = u64::MAX;
     while 0 < turns {
-        let turn = take(fd, &mut buffer, held, position, &mut counters);
+        let turn = take(input, &mut buffer, held, position, &mut counters);
         match turn {
             Turn::On { left, at } => {
                 held = left;
                 position = at;
             }
-            Turn::Whole => {
-                say_figures(&counters);
-                return;
-            }
+            Turn::Whole => return say_figures(rt, &counters),
             Turn::Refused { number, at } => {
-                say_figures(&counters);
-                say_refused(number, at);
-                return;
+                say_figures(rt, &counters)?;
+                return say_refused(rt, number, at);
             }
-            Turn::Failed => {
-                os::fail(name);
-                return;
-            }
+            Turn::Failed(why) => return fail(rt, name, why),
         }
         turns -= 1;
     }
+    Ok(())
 }
 
 // One turn: fills the buffer, counts the files that are whole in it, and moves the rest to its front. The `held` bytes
 // are those from `position` of the input on.
 fn take(
-    fd: i32,
+    input: &mut impl Read,
     buffer: &mut [u8],
     held: usize,
     position: u64,
     counters: &mut [u64; FIGURES],
 ) -> Turn {
-    let got = fill(fd, buffer, held);
-    let Got::Bytes(n) = got else {
-        return Turn::Failed;
+    let got = fill(input, buffer, held);
+    let n = match got {
+        Ok(n) => n,
+        Err(why) => return Turn::Failed(why),
     };
     let ended = n < buffer.len();
     let went = walk(buffer, n, least(ended), counters);
@@ -132,22 +133,18 @@ fn least(ended: bool) -> usize {
     WINDOW
 }
 
-// Reads after the first `held` bytes until the buffer is full or the input ends. A failed read is not taken for the
-// end.
-fn fill(fd: i32, buffer: &mut [u8], held: usize) -> Got {
+// Reads after the first `held` bytes until the buffer is full or the input ends, and returns the number of bytes in
+// the buffer. A failed read is not taken for the end.
+fn fill(input: &mut impl Read, buffer: &mut [u8], held: usize) -> io::Result<usize> {
     let mut done = held;
     while done < buffer.len() {
-        let got = libc::read(fd, &mut buffer[done..]);
-        if got < 0 {
-            return Got::Failed;
-        }
-        let more = io::count(got, &buffer[done..]);
+        let more = input.read(&mut buffer[done..])?;
         if more == 0 {
-            return Got::Bytes(done);
+            return Ok(done);
         }
         done += more;
     }
-    Got::Bytes(done)
+    Ok(done)
 }
 
 // Steps over the first n bytes of the buffer, as long as `wanted` bytes are unread. A file takes at least one byte,
@@ -229,26 +226,34 @@ fn held_sum(a: usize, b: usize) -> usize {
 }
 
 // Prints the 32 lines.
-fn say_figures(counters: &[u64; FIGURES]) {
-    say_line(b"files ", counters[FILES]);
-    say_line(b"nodes ", counters[NODES]);
-    say_line(b"lists ", counters[LISTS]);
-    say_numbered(b"mode ", 1, counters, MODES, 5);
-    say_line(b"calls accepted ", counters[CALLS_ACCEPTED]);
-    say_line(b"calls refused ", counters[CALLS_REFUSED]);
-    say_numbered(b"error ", 10, counters, ERRORS, 10);
-    say_numbered(b"error ", 50, counters, ERRORS + 10, 12);
+fn say_figures(rt: &impl Print, counters: &[u64; FIGURES]) -> io::Result<()> {
+    say_line(rt, b"files ", counters[FILES])?;
+    say_line(rt, b"nodes ", counters[NODES])?;
+    say_line(rt, b"lists ", counters[LISTS])?;
+    say_numbered(rt, b"mode ", 1, counters, MODES, 5)?;
+    say_line(rt, b"calls accepted ", counters[CALLS_ACCEPTED])?;
+    say_line(rt, b"calls refused ", counters[CALLS_REFUSED])?;
+    say_numbered(rt, b"error ", 10, counters, ERRORS, 10)?;
+    say_numbered(rt, b"error ", 50, counters, ERRORS + 10, 12)
 }
 
 // Prints the lines of n counters from `place` on, numbered from `first` on.
-fn say_numbered(text: &[u8], first: u64, counters: &[u64; FIGURES], place: usize, n: usize) {
+fn say_numbered(
+    rt: &impl Print,
+    text: &[u8],
+    first: u64,
+    counters: &[u64; FIGURES],
+    place: usize,
+    n: usize,
+) -> io::Result<()> {
     let mut i = 0;
     while i < n {
-        say(text);
-        io::print_decimal(STDOUT_FILENO, sum(first, i as u64));
-        say_line(b" ", counter(counters, held_sum(place, i)));
+        say(rt, text)?;
+        say_number(rt, sum(first, i as u64))?;
+        say_line(rt, b" ", counter(counters, held_sum(place, i)))?;
         i += 1;
     }
+    Ok(())
 }
 
 // The counter at a place; 0 if there is none.
@@ -259,18 +264,36 @@ fn counter(counters: &[u64; FIGURES], place: usize) -> u64 {
     0
 }
 
-fn say_refused(number: u32, at: u64) {
-    say(b"refused ");
-    io::print_decimal(STDOUT_FILENO, number as u64);
-    say_line(b" ", at);
+fn say_refused(rt: &impl Print, number: u32, at: u64) -> io::Result<()> {
+    say(rt, b"refused ")?;
+    say_number(rt, number as u64)?;
+    say_line(rt, b" ", at)
 }
 
-fn say_line(text: &[u8], n: u64) {
-    say(text);
-    io::print_decimal(STDOUT_FILENO, n);
-    say(b"\n");
+fn say_line(rt: &impl Print, text: &[u8], n: u64) -> io::Result<()> {
+    say(rt, text)?;
+    say_number(rt, n)?;
+    say(rt, b"\n")
 }
 
-fn say(text: &[u8]) {
-    io::write_all(STDOUT_FILENO, text);
+fn say_number(rt: &impl Print, n: u64) -> io::Result<()> {
+    rt.print(n)
+}
+
+fn say(rt: &impl Print, text: &[u8]) -> io::Result<()> {
+    rt.write_all(text)
+}
+
+// Reports that the argument names no file, and why.
+fn no_name(rt: &(impl Eprint + AllocGlobal), why: i32) -> io::Result<()> {
+    fail(rt, "the file's name", io::Error::from_raw_os_error(why))
+}
+
+// Writes a line to standard error: what failed, a colon, and why in the system's words, without the number after them.
+fn fail(rt: &(impl Eprint + AllocGlobal), what: &str, why: io::Error) -> io::Result<()> {
+    let text = format!(in rt.alloc(); "{why}")?;
+    match text.split_once(" (os error ") {
+        Some((words, _)) => eprintln!(rt; "{what}: {words}"),
+        None => eprintln!(rt; "{what}: {text}"),
+    }
 }

@@ -62,7 +62,8 @@ module _ (bs : List ℕ) (e : read_check bs ≡ accepted []) where
   unfolding read_check
   steps =
       let sound : Unit {0} → Answer = λ _. sound_check (content_at bs) in
-      let one = fronted_then bs (λ _. and_then (demand (leb (length bs) (header_at bs).taken) bytes_left_over) sound) e in
+      let one = fronted_then bs (λ _. and_then (demand (leb (length bs) (header_at bs).taken) bytes_left_over) sound)
+      e in
       let two = demand_then (leb (length bs) (header_at bs).taken) bytes_left_over sound one.1 in
       record { fronted = one.0; whole = two.0; sound = two.1 }
 

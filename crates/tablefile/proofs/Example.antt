@@ -60,10 +60,13 @@ small_bytes (x ∷ l) e (suc i) = small_bytes l (and_right (ltb x 256) (small l)
 
 -- it passes 1 to 5
 pub sound : sound_check content ≡ accepted []
-unfolding rules_of edition_of edition_held given_of from_bytes valid_bytes within check_of length_sound field size_of kids_of
+unfolding rules_of edition_of edition_held given_of from_bytes valid_bytes within check_of length_sound field size_of
+    kids_of
     rest_of forest_in forest count
-    count_tree same kind_in kind_of name_sound span_sound source_sound fields_sound whole_trees classes permitted wanted permits
-    kids_sound sound_node sound_at root_sound file_sound ends_by top_of files_of context_of record_sound first_false first_unsound
+    count_tree same kind_in kind_of name_sound span_sound source_sound fields_sound whole_trees classes permitted wanted
+    permits
+    kids_sound sound_node sound_at root_sound file_sound ends_by top_of files_of context_of record_sound first_false
+    first_unsound
     class_weight weight first_deep deep_in
 sound = refl
 

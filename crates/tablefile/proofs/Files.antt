@@ -6,7 +6,7 @@
 -- `tail_there`). Cite `front_is_file`, `front_changed`, `file_passes`, `file_holds`, `file_taken`. Assumes nothing.
 use mathlib.Core.Path.{◌≡◌, refl, sym, ap, ◌∙◌}
 use mathlib.Core.Bool.{true}
-use mathlib.Core.Logic.{◌⊎◌, ⊎_elim}
+use mathlib.Core.Logic.{⊎_elim}
 use mathlib.Core.List.{List, [], ◌++◌, append_assoc}
 use Prim.Native.Nat.{ℕ, ◌+◌, ◌*◌, ◌-◌, ◌/◌, ◌<◌, ◌≤◌}
 use native.Mathlib.Nat.{add-zero}
@@ -120,7 +120,8 @@ module _ (bs : List ℕ) (f : Fronted bs) (i v : ℕ) (other : v ≡ get_or bs i
     same_header = rw (same_field 4 (omega arith), same_field 6 (omega arith), same_field 2 (omega arith)) refl
 
     later : front_check (set bs i v) ≡ and_then (judge_run 1 (header_at bs).names (set (drop 512 bs) (i - 512) v))
-        (λ _. judge_run (header_at bs).first (24 * (header_at bs).nodes) (drop (512 * (header_at bs).first) (set bs i v)))
+        (λ _. judge_run (header_at bs).first (24 * (header_at bs).nodes)
+        (drop (512 * (header_at bs).first) (set bs i v)))
     unfolding blocks_check
     later =
         rw (

@@ -252,7 +252,8 @@ pub record Fronted (bs : List ℕ) : Type 0 where
   pub header : Passing 0 (used_of (header_at bs)) bs
   pub counts : Small (header_at bs).nodes (header_at bs).names
   pub names : judge_run 1 (header_at bs).names (drop 512 bs) ≡ accepted []
-  pub nodes : judge_run (header_at bs).first (24 * (header_at bs).nodes) (drop (512 * (header_at bs).first) bs) ≡ accepted []
+  pub nodes : judge_run (header_at bs).first (24 * (header_at bs).nodes) (drop (512 * (header_at bs).first) bs)
+      ≡ accepted []
 
 -- a test that is passed, and what follows it
 pub demand_then : (b : Bool) (n : ℕ) (next : Unit {0} → Answer) → and_then (demand b n) next ≡ accepted []

@@ -33,7 +33,7 @@ use Rattle.tablefile.specs.Loading.{verdict}
 use Rattle.tablefile.specs.Lending.{file_check, into_check, handed, copied, Holds}
 use Rattle.tablefile.specs.declared.Heading.{Heading}
 use Rattle.tablefile.specs.declared.Verdict.{Verdict}
-use Rattle.tablefile.specs.declared.Verdict.TheVariants.{Accepted, Refused}
+use Rattle.tablefile.specs.declared.Verdict.TheVariants.{Accepted}
 use Rattle.tablefile.proofs.Copies.{copied_is}
 use Rattle.tablefile.proofs.Fronts.{first_is, taken_is, Fronted, fronted_then, first_there_lem, taken_there}
 use Rattle.tablefile.proofs.Fronts.{table_length_lem, names_length}

@@ -1,5 +1,7 @@
 // The reader of table files (docs/FORMAT.md, a table file): the file at the front of some bytes, or a file that is
 // all of the bytes.
+#![tactic(auto)]
+
 ghost use Rattle.std.specs.Prelude.{◌≡◌, [], ◌++◌, ◌+◌, ◌*◌, ◌≤◌, ◌&&◌, length, take, drop, leb};
 ghost use Rattle.table.specs.Numbers.{short_buffer};
 ghost use Rattle.table.specs.Answer.{accepted, and_then, is_refused};
@@ -21,7 +23,7 @@ use table::{MOST_BYTES, MOST_NAMES, MOST_NODES, Refusal, Ruled, numbers};
 pub const MOST_BLOCKS: usize = 117;
 
 // Whether a file is accepted, or why it is refused.
-#[derive(Drop)]
+#[derive(Clone, Copy)]
 pub enum Verdict {
     Accepted,
     Refused(Refusal),
@@ -29,7 +31,7 @@ pub enum Verdict {
 
 // The content of a file by value, and the number of bytes that the file takes. Without a dialect, dialect_len is 0. The
 // bytes past the lengths are zero. If the file is refused, all is zero, with no edition.
-#[derive(Drop)]
+#[derive(Clone, Copy)]
 pub struct Loaded {
     pub verdict: Verdict,
     pub taken: usize,
@@ -44,7 +46,7 @@ pub struct Loaded {
 
 // The header of a file, and from it the places of its blocks: the numbers of nodes, name bytes, dialect bytes and
 // edition bytes, the number of the first node block, and the number of bytes that the file takes.
-#[derive(Drop)]
+#[derive(Clone, Copy)]
 pub struct Heading {
     pub nodes: usize,
     pub names: usize,
@@ -319,7 +321,7 @@ fn check(
     requires { (t ≤ length table.now) × (n ≤ length names.now) × (d ≤ length dialect.now) }
     ensures { verdict result ≡
         sound_check (record {
-          table = take t table.entry.now;
+          table = take t table.now;
           names = take n names.now;
           dialect = take d dialect.now;
           edition = edition;

@@ -108,7 +108,8 @@ leaf_none i = refl
 -- the first tree of any bytes; b is the answer of `is_headed`
 module _ (i : ℕ) (t : List ℕ) {b : Bool} (b_is : b ≡ is_headed i t) where
   module _ (no : b ≡ false) where
-    pub target_none : {r : Answer} → r ≡ refused_at invalid_lhs (node_of i []) → r ≡ counted 0 (tree_of i (headed_of i t))
+    pub target_none : {r : Answer} → r ≡ refused_at invalid_lhs (node_of i [])
+        → r ≡ counted 0 (tree_of i (headed_of i t))
     target_none r-is = r-is ∙ sym (ap (counted 0) (headed_leaf i t b_is no) ∙ leaf_none i)
 
     pub assign_none : accepted (0 ∷ []) ≡ check_assignment (tree_of i (headed_of i t))

@@ -85,7 +85,8 @@ module _ {t : List ℕ} {node count₀ : ℕ} where
       step =
           sym s.same
           ∙ ap (counted_each n) (forest_tree at left big)
-          ∙ after_both (check_assign (tree_of at left)) (λ _. check_each (forest (at + span_of left / 24) (rest_of left)))
+          ∙ after_both (check_assign (tree_of at left))
+          (λ _. check_each (forest (at + span_of left / 24) (rest_of left)))
           (λ _. accepted
           ((n + (leaves (tree_of at left) + leaves_each (forest (at + span_of left / 24) (rest_of left)))) ∷ []))
           ∙ rw add_assoc refl

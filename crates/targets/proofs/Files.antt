@@ -53,7 +53,8 @@ module _ (P : Node → Type 0) where
       let below = all_row P (node lhs ks) ts (all_tree P r (node lhs ks then ts) h).1 in
       let target : P lhs = (all_tree P lhs ks below.0).0 in
       told_then P (modify_check r lhs) _
-      (told_if_lem P (eqb r.kind kind_assign_modify && is_group lhs.kind) _ _ (told_at P invalid_modify_lhs lhs target) tt)
+      (told_if_lem P (eqb r.kind kind_assign_modify && is_group lhs.kind) _ _
+      (told_at P invalid_modify_lhs lhs target) tt)
       (told_then P (check_assign (node lhs ks)) _ (told_target (node lhs ks) below.0)
       (told_then P (type_check r lhs ts) _ (told_type r lhs ts below.1) tt))
 

@@ -4,6 +4,8 @@
 // target is a stretch of the node table.
 // Copyright 2018 The Starlark in Rust Authors. Copyright (c) Facebook, Inc. and its affiliates.
 // Licensed under Apache-2.0.
+#![tactic(auto)]
+
 ghost use Rattle.std.specs.Prelude.{◌≡◌, [], ◌∷◌, ◌+◌, ◌≤◌};
 ghost use Rattle.forest.specs.Forest.{node_of, tree_of, forest};
 ghost use Rattle.table.specs.Answer.{accepted, and_then};
@@ -16,7 +18,7 @@ use soundness::kinds;
 use table::{Checked, Refusal, Wanted, numbers};
 
 // The answer of the target and assignment jobs: the number of leaves of the target, or the refusal.
-#[derive(Drop)]
+#[derive(Clone, Copy)]
 pub enum Targeted {
     Leaves(u32),
     Refused(Refusal),

@@ -40,7 +40,8 @@ module _ (ban : Bool) (i : ℕ) (t : List ℕ) where
       pub object_other : (k ≡ kind_dot → ⊥) → {r : Answer} → r ≡ refused_at dot_in_type (node_of i t)
           → r ≡ object_path ban (forest i t)
       unfolding object_path
-      object_other h r-is = r-is ∙ rw (forest_tree i t big, ← k_is, ne_eqb k kind_identifier no, ne_eqb k kind_dot h) refl
+      object_other h r-is = r-is
+          ∙ rw (forest_tree i t big, ← k_is, ne_eqb k kind_identifier no, ne_eqb k kind_dot h) refl
 
       pub object_dot : k ≡ kind_dot → {e : ℕ} {r : Answer} → e ≡ span_of t
           → r ≡ object_path ban (forest (i + 1) (take (e - 24) (drop 24 t))) → r ≡ object_path ban (forest i t)
@@ -67,7 +68,8 @@ module _ (edition : Edition) (names : List ℕ) (i : ℕ) (t : List ℕ) {k : �
     unfolding unpack_path
     path_other h r-is = r-is ∙ rw (← k_is, ne_eqb k kind_identifier no, ne_eqb k kind_dot h) refl
 
-    pub path_dot : k ≡ kind_dot → {e : ℕ} {b : Bool} {r : Answer} → e ≡ span_of t → b ≡ banned edition names (node_of 0 t)
+    pub path_dot : k ≡ kind_dot → {e : ℕ} {b : Bool} {r : Answer} → e ≡ span_of t
+        → b ≡ banned edition names (node_of 0 t)
         → r ≡ object_path b (forest (i + 1) (take (e - 24) (drop 24 t))) → r ≡ unpack_path edition names (tree_of i t)
     unfolding unpack_path
     path_dot h {e} e-is b_is r-is = r-is ∙ rw (

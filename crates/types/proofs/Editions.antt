@@ -159,7 +159,8 @@ module _ (names : L.List ℕ) where
         (lifted_then (at_node One names form r ks) (at_node Two names form r ks) (lifted_node form r ks)
         (lifted_each (reads_of form) ks))
 
-    lifted_each : (reads : Reads) (ts : Forest) → Lifted (unpack_each reads One names ts) (unpack_each reads Two names ts)
+    lifted_each : (reads : Reads) (ts : Forest)
+        → Lifted (unpack_each reads One names ts) (unpack_each reads Two names ts)
     lifted_each reads none = lifted_same (accepted L.[]) tt
     lifted_each reads (t then ts) =
         lifted_then _ _ (lifted_child reads.first (lifted_unpack t) (lifted_argument t))
@@ -170,7 +171,8 @@ module _ (names : L.List ℕ) where
       → Lifted (dialect_check_type One names types t) (dialect_check_type Two names types t)
   unfolding dialect_check_type
   type_lifted types (node r ks) =
-      lifted_then (types_check types r) (types_check types r) (lifted_same (types_check types r) (go (permits_types types)))
+      lifted_then (types_check types r) (types_check types r)
+      (lifted_same (types_check types r) (go (permits_types types)))
       (lifted_unpack (node r ks))
     where
       go : (b : Bool) → NoBan (if' b (λ _. accepted L.[]) (λ _. refused_at types_disabled r))

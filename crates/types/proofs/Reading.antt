@@ -143,7 +143,8 @@ module _ (edition : Edition) (names : List ℕ) (i : ℕ) (t : List ℕ) (here :
 
 -- the List of arguments at the start of t
 module _ (edition : Edition) (names : List ℕ) (i : ℕ) (t : List ℕ) where
-  pub argument_start : 24 ≤ length t → 24 * i + length t ≤ 50400 → (node_of 0 t).kind ≡ kind_list → {e : ℕ} → e ≡ span_of t
+  pub argument_start : 24 ≤ length t → 24 * i + length t ≤ 50400 → (node_of 0 t).kind ≡ kind_list → {e : ℕ}
+      → e ≡ span_of t
       → Judging edition names AsArgument t (unpack_argument edition names (tree_of i t)) (take (e - 24) (drop 24 t))
       (i + 1) AsArgument
   unfolding «unpack»

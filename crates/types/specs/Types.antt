@@ -21,7 +21,8 @@ use Rattle.types.specs.declared.Form.TheVariants.{Ellipsis, Path, Index, Index2,
 -- the base of an Index, whose node is r: an Identifier, else 40 at the Index
 unfoldable pub index_base : Node → Forest → Answer
 index_base r none = refused_at invalid_type r
-index_base r (node b bs then ts) = if' (eqb b.kind kind_identifier) (λ _. accepted L.[]) (λ _. refused_at invalid_type r)
+index_base r (node b bs then ts) =
+    if' (eqb b.kind kind_identifier) (λ _. accepted L.[]) (λ _. refused_at invalid_type r)
 
 -- the base of an Index2: a path. Only an unsound Index2 has no base; it is accepted
 unfoldable pub index2_base : Edition → L.List ℕ → Forest → Answer

@@ -4,6 +4,8 @@
 // starlark_syntax 0.14.2, and changed: a type is a stretch of the node table, and its first refusal is the answer.
 // Copyright 2018 The Starlark in Rust Authors. Copyright (c) Facebook, Inc. and its affiliates.
 // Licensed under Apache-2.0.
+#![tactic(auto)]
+
 pub mod forms;
 mod judging;
 mod paths;
@@ -22,7 +24,7 @@ use forest::RECORD;
 use table::{Refusal, Ruled, Wanted, numbers};
 
 // The forms of a type, by the kind of its node.
-#[derive(Drop)]
+#[derive(Clone, Copy)]
 pub enum Form {
     Ellipsis,
     Path,
@@ -35,7 +37,7 @@ pub enum Form {
 }
 
 // How a child is read: not at all, as a type, or as an argument of an Index2.
-#[derive(Drop)]
+#[derive(Clone, Copy)]
 pub enum How {
     Unread,
     AsType,
@@ -43,14 +45,14 @@ pub enum How {
 }
 
 // How the children of a type are read: the first, and the others.
-#[derive(Drop)]
+#[derive(Clone, Copy)]
 pub struct Reads {
     pub first: How,
     pub others: How,
 }
 
 // The answer of the type job: accepted, or the refusal.
-#[derive(Drop)]
+#[derive(Clone, Copy)]
 pub enum Shaped {
     Accepted,
     Refused(Refusal),

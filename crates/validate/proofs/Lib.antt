@@ -3,6 +3,7 @@ pub mod Refusals
 pub mod Lists
 pub mod Walks
 pub mod Sites
+pub mod Plain
 pub mod Jobs
 pub mod Own
 pub mod Theorems

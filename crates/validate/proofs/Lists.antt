@@ -6,7 +6,7 @@
 use mathlib.Core.Path.{◌≡◌, refl, sym, ◌∙◌}
 use mathlib.Core.Bool.{Bool, true, false, not}
 use mathlib.Core.List.{List, [], ◌∷◌, ◌++◌}
-use Prim.Native.Nat.{ℕ, ◌+◌, ◌-◌, ◌*◌, ◌/◌, ◌^◌, ◌<◌, ◌≤◌}
+use Prim.Native.Nat.{ℕ, ◌+◌, ◌*◌, ◌/◌, ◌^◌, ◌<◌, ◌≤◌}
 use native.Mathlib.Omega.{arith}
 use lib.ListN.{length}
 use Rattle.dialect.specs.declared.Dialect.{Dialect}
@@ -90,7 +90,8 @@ module _ {l : Listing} (m : Mark) (i : ℕ) (t : List ℕ) where
 
     module _ {b : Bool} (b_is : b ≡ is_listed left) where
       pub mark_on : b ≡ true → {at n : ℕ} {zs : List ℕ} → at ≡ free_at l total xs
-          → Stores l (mark_error m (node_of place left) (kind_here left)) (after at xs) n zs → {e : ℕ} → e ≡ span_of left
+          → Stores l (mark_error m (node_of place left) (kind_here left)) (after at xs) n zs → {e : ℕ}
+          → e ≡ span_of left
           → Marking l m i t xs₀ (after e left) (place + e / 24) (total + n) (back at xs zs)
       mark_on listed at-is s {e} e-is =
           let here : is_listed left ≡ true = sym b_is ∙ listed in
@@ -114,7 +115,8 @@ pub mark_few : {l : Listing} (m : Mark) (i : ℕ) (t : List ℕ) {xs ys : List �
 mark_few m i t s = unless_one (not (is_mark m (kind_here t))) (err_at (not_permitted m) (node_of i t)) s
 
 -- a parameter that is a mark of a sort
-pub mark_told : {l : Listing} (m : Mark) (i : ℕ) (t : List ℕ) {k : Kind} → k ≡ kind_here t → {c : Bool} → c ≡ is_mark m k
+pub mark_told : {l : Listing} (m : Mark) (i : ℕ) (t : List ℕ) {k : Kind} → k ≡ kind_here t → {c : Bool}
+    → c ≡ is_mark m k
     → {n : ℕ} → n ≡ not_permitted m → {xs ys : List ℕ} {r : ℕ} → Stores l (unless (not c) n (node_of i t)) xs r ys
     → Stores l (mark_error m (node_of i t) (kind_here t)) xs r ys
 mark_told m i t k_is c-is n_is s = rw (← k_is, ← c-is, ← n_is) s
@@ -143,7 +145,8 @@ pub fault_small : (i : ℕ) (t : List ℕ) {j : Judged} {a : Fault} → (24 ≤ 
 fault_small i t room inside h = omega (arith, room.1, (rw h at inside).0)
 
 -- the children of a node lie within the largest table, if it does
-pub kids_within : (i : ℕ) (t : List ℕ) {list : List ℕ} → (24 ≤ length t) × (24 * i + length t ≤ 50400) → list ≡ kids_of t
+pub kids_within : (i : ℕ) (t : List ℕ) {list : List ℕ} → (24 ≤ length t) × (24 * i + length t ≤ 50400)
+    → list ≡ kids_of t
     → 24 * (i + 1) + length list ≤ 50400
 kids_within i t h list_is = rw list_is (omega (arith, length_kids t, h.0, h.1))
 

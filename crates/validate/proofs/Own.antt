@@ -106,7 +106,8 @@ module _ (d : Dialect) (names : List ℕ) where
   unfolding with_params validate_params
   own_with b n r ks h passed =
       let ps : List Param = params_in names ks in
-      own_both (unless_in b (err_at n r)) ((marks d Star ps ++ marks d SlashMark ps) ++ unpack_error (told (limited r ps)))
+      own_both (unless_in b (err_at n r))
+      ((marks d Star ps ++ marks d SlashMark ps) ++ unpack_error (told (limited r ps)))
       (own_unless b n r h)
       (own_both (marks d Star ps ++ marks d SlashMark ps) (unpack_error (told (limited r ps)))
       (own_both (marks d Star ps) (marks d SlashMark ps) (own_marks d Star ps) (own_marks d SlashMark ps))

@@ -88,7 +88,8 @@ rule_in SeenSlash optional KwArgs = refl
 rule_in SeenStar optional KwArgs = refl
 rule_in SeenStarStar optional KwArgs = refl
 
-check_in_lem : (before : List Param) (s : State) (optional : Bool) (p : Param) → check_in (check before s optional p) ≡ true
+check_in_lem : (before : List Param) (s : State) (optional : Bool) (p : Param)
+    → check_in (check before s optional p) ≡ true
 check_in_lem before s optional p = go (repeats before p)
   where
     go : (f : Found) → check_in (firstly f (rule s optional (kind_in p))) ≡ true

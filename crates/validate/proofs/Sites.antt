@@ -31,11 +31,11 @@ use Rattle.validate.specs.Module.{expr_errors, expr, visit_expr}
 use Rattle.validate.proofs.Walks.{children, made}
 
 -- a test of two that fails
-or_left : (a b : Bool) → (a || b) ≡ false → a ≡ false
+pub or_left : (a b : Bool) → (a || b) ≡ false → a ≡ false
 or_left true b e = e
 or_left false b e = refl
 
-or_right : (a b : Bool) → (a || b) ≡ false → b ≡ false
+pub or_right : (a b : Bool) → (a || b) ≡ false → b ≡ false
 or_right true b e = never (cc)
 or_right false b e = e
 
@@ -76,7 +76,8 @@ module _ (d : Dialect) (names : List ℕ) where
     pub no_sites : (ts : Forest) → has_site (nodes ts) ≡ false → visit_expr d names ts ≡ []
     no_sites none e = refl
     no_sites (t then ts) e =
-        let both : (has_site (nodes_of t) || has_site (nodes ts)) ≡ false = sym (sites_both (nodes_of t) (nodes ts)) ∙ e in
+        let both : (has_site (nodes_of t) || has_site (nodes ts)) ≡ false = sym (sites_both (nodes_of t) (nodes ts))
+        ∙ e in
         let one = tree_quiet t (or_left (has_site (nodes_of t)) (has_site (nodes ts)) both) in
         let rest = no_sites ts (or_right (has_site (nodes_of t)) (has_site (nodes ts)) both) in
         rw (one, rest) refl

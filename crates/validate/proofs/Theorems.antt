@@ -3,7 +3,7 @@
 -- keeps of its errors. Assumes nothing.
 use mathlib.Core.Path.{◌≡◌, refl, ap}
 use mathlib.Core.List.{List, [], ◌∷◌, ◌++◌}
-use Prim.Native.Nat.{ℕ, ◌+◌, ◌*◌, ◌/◌, ◌≤◌}
+use Prim.Native.Nat.{ℕ, ◌*◌, ◌/◌, ◌≤◌}
 use native.Mathlib.Omega.{arith}
 use lib.ListN.{length, take, drop, length-take}
 use mathlib.Core.Bool.{Bool, true, false, ◌&&◌, not}
@@ -73,7 +73,7 @@ own_none (e ∷ es) = go (is_list_error e.number) refl (own_none es)
   where
     go : (b : Bool) → is_list_error e.number ≡ b → none_of_lists (without_lists es) ≡ true
         → none_of_lists (if' b (λ _. without_lists es) (λ _. e ∷ without_lists es)) ≡ true
-    go true is_one h = h
+    go true is_one_lem h = h
     go false is_none h = rw (is_none, h) refl
 
 -- THEOREM: and every other is there: where none is one of a parameter list, all are kept. In the form Own the pass's

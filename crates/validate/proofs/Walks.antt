@@ -66,7 +66,8 @@ statement_range k h = alike_same _ _
 
 -- LAW: a kind with no arm of its own
 pub arm_other : (d : Dialect) (s : Standing) {k : ℕ} → (k ≡ kind_def → ⊥) → (k ≡ kind_for → ⊥) → (k ≡ kind_if → ⊥)
-    → (k ≡ kind_if_else → ⊥) → (k ≡ kind_break → ⊥) → (k ≡ kind_continue → ⊥) → (k ≡ kind_return → ⊥) → (k ≡ kind_load → ⊥)
+    → (k ≡ kind_if_else → ⊥) → (k ≡ kind_break → ⊥) → (k ≡ kind_continue → ⊥) → (k ≡ kind_return → ⊥)
+    → (k ≡ kind_load → ⊥)
     → Below s ≡ arm_of d s k
 unfolding arm_of
 arm_other d s {k} no-def no-for no-if no-else no-break no-continue no_return no-load = rw (
@@ -170,11 +171,11 @@ module _ (d : Dialect) (names : List ℕ) (s : Standing) (i : ℕ) (t : List ℕ
   unfolding f
   f_none h {l} {xs} = rw (← k_is, ← b_is, h) (stores_none xs)
 
-  module _ (is_one : b ≡ true) {a : Arm} (a-is : a ≡ arm_of d s k) where
+  module _ (is_one_lem : b ≡ true) {a : Arm} (a-is : a ≡ arm_of d s k) where
     opened : f d names s (tree_of i t)
         ≡ on_arm d names s (node_of i t) (children i t) (λ p. visit_stmt d names p (children i t)) a
     unfolding f
-    opened = rw (← k_is, ← b_is, is_one, a-is) refl
+    opened = rw (← k_is, ← b_is, is_one_lem, a-is) refl
 
     module _ {l : Listing} {m : ℕ} {xs ys : List ℕ} where
       pub f_load : a ≡ Load → Stores l (load_errors d s (node_of i t)) xs m ys

@@ -5,6 +5,8 @@
 // table, and errors go into a lent list.
 // Copyright 2018 The Starlark in Rust Authors. Copyright (c) Facebook, Inc. and its affiliates.
 // Licensed under Apache-2.0.
+#![tactic(auto)]
+
 mod expressions;
 mod params;
 mod statements;
@@ -21,14 +23,14 @@ use errors::Listing;
 use table::{Given, Refusal};
 
 // The answer of the module job: the number of errors, or why it refuses.
-#[derive(Drop)]
+#[derive(Clone, Copy)]
 pub enum Listed {
     Total(u32),
     Refused(Refusal),
 }
 
 // The place of a statement.
-#[derive(Drop)]
+#[derive(Clone, Copy)]
 pub struct Standing {
     pub top_level: bool,
     pub inside_for: bool,
@@ -36,7 +38,7 @@ pub struct Standing {
 }
 
 // What the walk does at a statement.
-#[derive(Drop)]
+#[derive(Clone, Copy)]
 pub enum Arm {
     Def, // a def: its own errors, then its body
     Load, // a load: its own errors, and nothing below
@@ -45,7 +47,7 @@ pub enum Arm {
 }
 
 // A mark in a parameter list that a dialect may not permit.
-#[derive(Drop)]
+#[derive(Clone, Copy)]
 pub enum Mark {
     Star, // the bare `*`
     Slash,

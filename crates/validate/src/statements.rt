@@ -4,12 +4,12 @@
 // stretches of the node table.
 // Copyright 2018 The Starlark in Rust Authors. Copyright (c) Facebook, Inc. and its affiliates.
 // Licensed under Apache-2.0.
-ghost use Rattle.std.specs.Prelude.{◌≡◌, ◌+◌, ◌*◌, eqb};
-ghost use Rattle.forest.specs.Forest.{node_of, span_of, tree_of, forest};
+ghost use Rattle.std.specs.Prelude.{◌≡◌, ◌+◌, ◌*◌, ◌/◌, length, eqb};
+ghost use Rattle.forest.specs.Forest.{record_bytes, node_of, span_of, kids_of, tree_of, forest};
 ghost use Rattle.soundness.specs.Kinds.{statement, class_of};
 ghost use Rattle.errors.specs.Errors.{Stores};
-ghost use Rattle.validate.specs.Inner.{StoresFew};
-ghost use Rattle.validate.specs.Module.{is_banned, told_if, arm_of, load_errors, f, visit_stmt};
+ghost use Rattle.validate.specs.Inner.{StoresFew, is_plain, SaysStatement};
+ghost use Rattle.validate.specs.Module.{is_banned, told_if, arm_of, def_errors, load_errors, f, visit_stmt};
 ghost use Rattle.table.specs.Check.{Headed, Within, most_nodes};
 
 use crate::{Arm, Standing, params};
@@ -24,6 +24,29 @@ fn is_statement(kind: u8) -> bool
     ensures { result ≡ eqb (class_of kind) statement }
 {
     (kinds::STATEMENTS <= kind) & (kind <= kinds::ASSIGN_MODIFY)
+}
+
+// Whether a statement of this kind has no arm of its own: it has no errors, and the statements below it are in its
+// place.
+fn is_plain(kind: u8) -> bool
+    ensures { result ≡ is_plain kind }
+{
+    (kind == kinds::STATEMENTS) | (kinds::OTHER_SIMPLE <= kind)
+}
+
+// Whether one of the nodes side by side in a stretch is a statement.
+fn has_statement(t: &[u8]) -> bool
+    ensures { SaysStatement t.now result }
+{
+    let mut left = t;
+    while RECORD <= left.len() {
+        if is_statement(forest::kind(left)) {
+            return true;
+        }
+        let size = forest::span(left);
+        left = &left[size..];
+    }
+    false
 }
 
 // Whether a for or if is not permitted here: at the top level, if the dialect does not permit it.
@@ -71,6 +94,24 @@ fn arm_of(d: Dialect, s: Standing, kind: u8) -> Arm
     }
 }
 
+// A def that the dialect does not permit, and the errors of its parameters.
+fn def_errors(
+    listing: Listing,
+    d: Dialect,
+    names: &[u8],
+    t: &[u8],
+    at: usize,
+    errors: &mut [u32],
+) -> usize
+    requires { Headed at t.now }
+    ensures { StoresFew listing (2 + length t.now / record_bytes)
+        (def_errors d names.now (node_of at t.now) (forest (at + 1) (kids_of t.now)))
+        errors.old result errors.new }
+{
+    let number = numbers::DEF_NOT_PERMITTED;
+    params::with_params(listing, d.enable_def, number, d, names, t, at, errors)
+}
+
 // A load that is not at the top, and then one that the dialect does not permit.
 fn load_errors(
     listing: Listing,
@@ -92,7 +133,8 @@ fn load_errors(
     first + rest
 }
 
-// The statement that a stretch begins with, if it begins with one: the inner f. Its tree takes e bytes.
+// The statement that a stretch begins with, if it begins with one: the inner f. Its tree takes e bytes. Most statements
+// are plain and have no statement below, so that the walk is not entered for them.
 #[cycle(check_statement_visit_stmt)]
 fn check_statement(
     listing: Listing,
@@ -113,19 +155,17 @@ fn check_statement(
     if !is_statement(kind) {
         return 0;
     }
+    if is_plain(kind) {
+        let below = &t[RECORD..e];
+        if !has_statement(below) {
+            return 0;
+        }
+        return visit_stmt(listing, d, names, below, at + 1, s, errors);
+    }
     let arm = arm_of(d, s, kind);
     match arm {
         Arm::Def => {
-            let first = params::with_params(
-                listing,
-                d.enable_def,
-                numbers::DEF_NOT_PERMITTED,
-                d,
-                names,
-                t,
-                at,
-                errors,
-            );
+            let first = def_errors(listing, d, names, t, at, errors);
             let free = errors::free(listing, errors.len(), first);
             let body = Standing {
                 top_level: false,

@@ -376,7 +376,8 @@ module _ (t names ds : List ℕ) (edition : Stated) (d : List ℕ) (pre : (lengt
         -- LAW: the result is the file
         pub file_whole : {zs : List ℕ}
             → zs ≡ over 0 (run_of (1 + k) t) (take (length f₂ - 512 * (1 + k)) (drop (512 * (1 + k)) f₂))
-            → put_mid (512 * (1 + k)) (length f₂ - 512 * (1 + k)) f₂ zs ≡ over 0 (file_of (holding t names ds edition)) d
+            → put_mid (512 * (1 + k)) (length f₂ - 512 * (1 + k)) f₂ zs
+            ≡ over 0 (file_of (holding t names ds edition)) d
         unfolding file_of
         file_whole zs-is =
             let at : 512 * first ≡ 0 + length begun = omega (arith, begun_long) in

@@ -51,7 +51,8 @@ module _ (t names ds : List ℕ) where
       go true e = absurd (omega (arith, length_whole (length t) e))
       go false e = bad_table e
 
-  long_names : length_sound (length t) ≡ true → most_names < length names → given_of t names ds ≡ turned_away name_bytes []
+  long_names : length_sound (length t) ≡ true → most_names < length names
+      → given_of t names ds ≡ turned_away name_bytes []
   unfolding given_of
   long_names e h = rw (← check_names t names (sym e) refl h) refl
 

@@ -1,5 +1,7 @@
 // The writer of table files (docs/FORMAT.md, a table file): writes a table, its names, a dialect or none and an edition
 // or none as blocks into a buffer.
+#![tactic(auto)]
+
 ghost use Rattle.std.specs.Prelude.{◌≡◌, true, ◌+◌, ◌*◌, ◌<◌, ◌≤◌, length};
 ghost use Rattle.fields.specs.Over.{over};
 ghost use Rattle.dialect.specs.Editions.{stated_bytes};
@@ -16,7 +18,7 @@ use forest::RECORD;
 use table::{MOST_BYTES, MOST_NAMES, Refusal, Ruled, numbers};
 
 // The answer of the job: the number of bytes written, a multiple of 512, or why it is refused.
-#[derive(Drop)]
+#[derive(Clone, Copy)]
 pub enum Written {
     Accepted(u32),
     Refused(Refusal),

@@ -1,0 +1,12 @@
+-- `arguments::call` meets its contract: 1 to 4, 6, then the rule of the node's stretch. Assumes nothing.
+use Rattle.table.proofs.Entering.{job_refused, job_rule, job_long, job_within}
+use Rattle.arguments.proofs.call.Goals as goal
+
+pub returns-in-Refused : goal.returns-in-Refused
+returns-in-Refused c = search job_refused
+
+pub arguments-requires : goal.arguments-requires
+arguments-requires c = search (job_long, job_within)
+
+pub returns : goal.returns
+returns c = search job_rule

@@ -1,0 +1,6 @@
+-- `arguments::new_name` meets its contract: a name that is found is repeated. Assumes nothing.
+use Rattle.arguments.proofs.Steps.{new_found}
+use Rattle.arguments.proofs.new_name.Goals as goal
+
+pub returns-in-At : goal.returns-in-At
+returns-in-At c = search new_found

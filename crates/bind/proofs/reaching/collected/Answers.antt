@@ -1,0 +1,6 @@
+-- `bind::reaching::collected` meets its contract: it is the definition, case by case. Assumes nothing.
+
+use Rattle.bind.proofs.reaching.collected.Goals as goal
+
+pub returns-in-At : goal.returns-in-At
+returns-in-At c = cc

@@ -1,0 +1,11 @@
+-- What the loop keeps.
+use Prim.Native.Nat.{◌-◌}
+use lib.ListN.{length}
+use Rattle.blocks.proofs.Laying.{Putting}
+use Rattle.blocks.proofs.bytes.lay.Given as goal
+
+abbrev pub invariant-loop-i : goal.invariant-loop-i
+invariant-loop-i l = Putting l.initial.out l.bytes l.at l.out l.i
+
+abbrev pub decreases-loop-i : goal.decreases-loop-i
+decreases-loop-i l = length l.bytes - l.i

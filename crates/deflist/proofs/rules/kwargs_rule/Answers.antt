@@ -1,0 +1,6 @@
+-- `deflist::rules::kwargs_rule` meets its contract: it is the definition, state by state. Assumes nothing.
+use mathlib.Core.Path.{refl}
+use Rattle.deflist.proofs.rules.kwargs_rule.Goals as goal
+
+pub returns-in-SeenStarStar : goal.returns-in-SeenStarStar
+returns-in-SeenStarStar c = rw c.in-SeenStarStar.is refl

@@ -1,0 +1,13 @@
+-- `deflist::walk::earlier` meets its contract: what is found among the children, counted from the table. Assumes
+-- nothing.
+use Rattle.deflist.proofs.Entries.{earlier_room, earlier_at, earlier_none}
+use Rattle.deflist.proofs.walk.earlier.Goals as goal
+
+pub overflow_add-result : goal.overflow_add-result
+overflow_add-result c = search earlier_room
+
+pub returns-in-At : goal.returns-in-At
+returns-in-At c = search earlier_at
+
+pub returns-in-Nothing : goal.returns-in-Nothing
+returns-in-Nothing c = search earlier_none

@@ -1,0 +1,19 @@
+-- `fstring::judge_parts` meets its contract: 64, then 7. Assumes nothing.
+use mathlib.Core.Path.{sym, ◌∙◌}
+use Rattle.fstring.proofs.Jobs.{parts_broken, parts_short, left_less, parts_fit}
+use Rattle.fstring.proofs.judge_parts.Goals as goal
+
+pub returns-then-not-is_whole : goal.returns-then-not-is_whole
+returns-then-not-is_whole c = search parts_broken
+
+pub room_behind-behind-requires : goal.room_behind-behind-requires
+room_behind-behind-requires c = sym c.is_whole.ensures ∙ c.if-not-is_whole.false
+
+pub overflow_sub-result : goal.overflow_sub-result
+overflow_sub-result c = search left_less
+
+pub returns-in-Left : goal.returns-in-Left
+returns-in-Left c = search parts_fit
+
+pub returns-in-Short : goal.returns-in-Short
+returns-in-Short c = search parts_short

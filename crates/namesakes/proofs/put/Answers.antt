@@ -1,0 +1,14 @@
+-- `namesakes::put` meets its contract: without a namesake nothing is written. Assumes nothing.
+use Rattle.namesakes.proofs.Steps.{put_at, put_nothing}
+use Rattle.namesakes.proofs.put.Goals as goal
+
+pub returns-in-At : goal.returns-in-At
+returns-in-At c =
+    let other = c.put_other.ensures in
+    let all = put_at _ _ _ _ c.in-At.is (other.value, other.list_after) in
+    record { value = all.0; list_after = all.1 }
+
+pub returns-in-Nothing : goal.returns-in-Nothing
+returns-in-Nothing c =
+    let all = put_nothing _ _ _ _ c.in-Nothing.is in
+    record { value = all.0; list_after = all.1 }

@@ -1,0 +1,6 @@
+-- `parameters::first_of` meets its contract: the state that the count says. Assumes nothing.
+use Rattle.parameters.proofs.Job.{accepted_first}
+use Rattle.parameters.proofs.first_of.Goals as goal
+
+pub returns-in-Accepted : goal.returns-in-Accepted
+returns-in-Accepted c = search accepted_first

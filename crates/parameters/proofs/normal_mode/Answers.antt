@@ -1,0 +1,6 @@
+-- `parameters::normal_mode` meets its contract: it is the definition, state by state. Assumes nothing.
+use mathlib.Core.Path.{refl}
+use Rattle.parameters.proofs.normal_mode.Goals as goal
+
+pub returns-in-SeenStarStar : goal.returns-in-SeenStarStar
+returns-in-SeenStarStar c = rw c.in-SeenStarStar.is refl

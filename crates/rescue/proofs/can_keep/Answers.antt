@@ -1,0 +1,16 @@
+-- `rescue::can_keep` meets its contract: no statement, an unsound record, a node too deep, or a child to keep.
+-- Assumes nothing.
+use Rattle.rescue.proofs.Leaves.{keep_other, keep_unsound, keep_deep, keep_flat}
+use Rattle.rescue.proofs.can_keep.Goals as goal
+
+pub returns-then-class-ne-STATEMENT : goal.returns-then-class-ne-STATEMENT
+returns-then-class-ne-STATEMENT c = search keep_other
+
+pub returns-in-At : goal.returns-in-At
+returns-in-At c = search keep_unsound
+
+pub returns-in-At-deep : goal.returns-in-At-deep
+returns-in-At-deep c = search keep_deep
+
+pub returns-in-Nothing : goal.returns-in-Nothing
+returns-in-Nothing c = search keep_flat

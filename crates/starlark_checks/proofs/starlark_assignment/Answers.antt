@@ -1,0 +1,19 @@
+-- `starlark_checks::starlark_assignment` meets its contract: the answer of the job, arm by arm. Assumes nothing.
+use Rattle.starlark_checks.proofs.Told.{told}
+use Rattle.starlark_checks.specs.Words.{words}
+use Rattle.targets.specs.Jobs.{targeted}
+use Rattle.starlark_checks.proofs.starlark_assignment.Goals as goal
+
+pub returns-in-Leaves : goal.returns-in-Leaves
+returns-in-Leaves c =
+    let assignment = c.assignment-answer in
+    let all = told words targeted _ _ _ _ _ _ assignment.ensures c.in-Leaves.is
+    (c.put_count.ensures.value, c.put_count.ensures.out_after) in
+    record { value = all.0; out_after = all.1 }
+
+pub returns-in-Refused : goal.returns-in-Refused
+returns-in-Refused c =
+    let assignment = c.assignment-answer in
+    let all = told words targeted _ _ _ _ _ _ assignment.ensures c.in-Refused.is
+    (c.put_refused.ensures.value, c.put_refused.ensures.out_after) in
+    record { value = all.0; out_after = all.1 }

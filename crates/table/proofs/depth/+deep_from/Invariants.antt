@@ -1,0 +1,13 @@
+-- What decreases, and what the loops keep.
+use lib.ListN.{length}
+use Rattle.table.proofs.Deep.{Searching}
+use Rattle.table.proofs.depth.+deep_from.Given as goal
+
+abbrev pub decreases-deep_from : goal.decreases-deep_from
+decreases-deep_from l = length l.t.now
+
+abbrev pub invariant-loop-left : goal.invariant-loop-left
+invariant-loop-left l = Searching l.t l.at l.depth l.left l.i
+
+abbrev pub decreases-loop-left : goal.decreases-loop-left
+decreases-loop-left l = length l.left

@@ -1,0 +1,6 @@
+-- `tablefile::table_of` meets its contract: the content of the blocks is written over zeros. Assumes nothing.
+use Rattle.tablefile.proofs.Copies.{laid_run}
+use Rattle.tablefile.proofs.table_of.Goals as goal
+
+pub returns : goal.returns
+returns c = search laid_run

@@ -1,0 +1,12 @@
+-- `validate::params::unpack_error` meets its contract: what is said of the list. Assumes nothing.
+use Rattle.validate.proofs.Lists.{fault_small, error_none, error_one}
+use Rattle.validate.proofs.params.unpack_error.Goals as goal
+
+pub error_of-requires : goal.error_of-requires
+error_of-requires c = search fault_small
+
+pub returns-in-Accepted : goal.returns-in-Accepted
+returns-in-Accepted c = search error_none
+
+pub returns-in-Refused : goal.returns-in-Refused
+returns-in-Refused c = search error_one

@@ -1,0 +1,6 @@
+-- `writer::is_byte` meets its contract: it is the definition. Assumes nothing.
+use Rattle.writer.proofs.Building.{byte_number}
+use Rattle.writer.proofs.is_byte.Goals as goal
+
+pub returns-in-Number : goal.returns-in-Number
+returns-in-Number c = search byte_number
