@@ -36,8 +36,8 @@
  *   Buffers that are only read may overlap each other; a written buffer (modes, shapes, list, errors, the file that is written, table and names of
  *   starlark_read, a format text, its parts and texts, a book that is changed, figures, `out`) overlaps none. Words are aligned to four bytes,
  *   figures to eight.
- *   The thread has enough stack: STARLARK_STACK_BYTES is more than twice what any job was measured to need (bindings/c/stack.c, earlier on aarch64):
- *   at 2,100 nodes of many shapes the table check needs 17 KB, the parameter job 17 KB, the call job 17 KB, the type job 26 KB, the module pass
+ *   The thread has enough stack: STARLARK_STACK_BYTES is more than twice what any job was measured to need (bindings/c/stack.c; the figures here are of an older kit,
+ *   on aarch64): at 2,100 nodes of many shapes the table check needs 17 KB, the parameter job 17 KB, the call job 17 KB, the type job 26 KB, the module pass
  *   28 KB, the audit 64 KB, the binding job 34 KB, the target, assignment and write jobs no more than 17 KB; of a file of 2,100 nodes the rescue and
  *   starlark_read need 76 KB, starlark_check_file 86 KB, starlark_figures 104 KB. The two functions of format texts need less than 1 KB.
  *   A lookup in two books of 100 blocks, an addition and a removal need 17 KB each.

@@ -8,9 +8,9 @@ command -v rt >/dev/null 2>&1 || return 1
 kit=$(dirname "$(rt doc)")
 kit_toolchain=$kit/toolchain
 
-# The crates that a crate uses, by a crates.txt: near, those of its line, with the kit's libraries; all, the crates of the repository that it
-# uses directly or indirectly, and the crate itself; words, the words behind its name, such as staticlib.
-kit_crates() { # FILE near|all|words NAME
+# By a crates.txt: all, the crates of the repository that a crate uses directly or indirectly, and the crate itself; words, the words behind its
+# name, such as staticlib.
+kit_crates() { # FILE all|words NAME
     awk -v which="$2" -v wanted="$3" '
         function visit(name, part, count, k) {
             if (!(name in near) || seen[name]++) return
@@ -26,5 +26,5 @@ kit_crates() { # FILE near|all|words NAME
             words[name] = substr(head, index(head, name) + length(name))
             near[name] = substr($0, mark + 1)
         }
-        END { if (which == "near") print near[wanted]; else if (which == "words") print words[wanted]; else visit(wanted) }' "$1"
+        END { if (which == "words") print words[wanted]; else visit(wanted) }' "$1"
 }

@@ -40,7 +40,7 @@ def number(text):
 
 
 def gate(log):
-    """The steps with their seconds, and each crate: its edits that rt tries itself, its wrong answers, and how many of them this run has tried."""
+    """The steps with their seconds, and each crate: its edits that rt tries itself, all its edits, and how many of them this run has tried."""
     steps = re.findall(r"^test: ([\w-]+): (\d+ passed|passed|SKIPPED|FAILED)(?:, status -?\d+)?(?: \((?:(\d+) s|[^)]*)\))?$", log, re.M)
     tried = {}
     for crate in re.findall(r"^rt: must-fail (\w+)/\S+: refused", log, re.M):

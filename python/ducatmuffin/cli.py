@@ -527,7 +527,7 @@ def diff_parser():
 def build_parser():
     parser = make_parser("build", BUILD)
     parser.add_argument("--unproved", action="store_true",
-                        help="compile in seconds without a proof, into target/unproved; every command then reports that its library is not proved")
+                        help="compile in half a minute without a proof, into target/unproved; every command then reports that its library is not proved")
     add_format(parser)
     return parser
 

@@ -1,5 +1,5 @@
 #!/usr/bin/env python3
-"""The gate, started by ./test: proves every crate again, tries every wrong answer, runs every program, test and comparison.
+"""The gate, started by ./test: proves every crate, tries every wrong answer, runs every program, test and comparison.
 
 gate.py             every step. Prints first what is missing on this machine and which steps are skipped for that
 gate.py NAME...     only these steps, with what earlier steps have made

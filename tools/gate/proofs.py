@@ -1,7 +1,7 @@
 #!/usr/bin/env python3
 """Runs `rt ci`, the verdict on every crate: it proves each crate, tries each edit of must-fail, and runs each program and test.
 
-It runs at the top of the checkout, with no crate named and nothing kept back. rt passes a bad edit of must-fail, which shows nothing, so this
+It runs at the top of the checkout, with no crate named. What rt has passed on this machine, of the same files, it does not try again. rt passes a bad edit of must-fail, which shows nothing, so this
 script does not: the line 'rt: ok' must say that every edit of must-fail was refused. rt also refuses a file that `rt fmt` would change.
 The last line is rt's 'N passed, M failed', in which each fault of this script is one that failed. The exit status is 0 only if M is 0.
 """

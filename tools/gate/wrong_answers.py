@@ -59,7 +59,8 @@ EARLIER_GOAL = ("blocks::bytes::put", "books::blank", "tablefile::unpack", "tabl
 # Edits that exchange two calls. The goal that fails is the function's promise, but its answer names one of the calls, and rt says no more than that.
 EXCHANGED_CALLS = {"errors/free_words_of_four": "errors::free"}
 NAMED = "(only because a proof file names what the edit took away, so this says little of the contract: change a value and keep the names)"
-NO_VERDICT = "no verdict"
+# Words of a tactic that gave up, or that a proof does not fit: no reason, whichever tactic it is.
+GAVE_UP = re.compile(r"gave up|one of its limits|is not in scope")
 # rt prints this many characters of a message. A term that is cut there counts as a term alone if it begins with a definition of specs/, since the
 # goal that rt names failed there: where a name or a field is missing, rt sees that in the whole message and says so in other words (NO_REASON).
 SAID = 160
@@ -68,6 +69,8 @@ CUT_TERM = re.compile(r"`Rattle\.\w+\.specs\.[^`]*\Z")
 
 def fact_in(words, message):
     """The word for the fact at which a goal fails, by what rt says of it; None if it is no reason."""
+    if not words.startswith("it is not proved that ") and GAVE_UP.search(words):
+        return None
     cut = "law" if len(message) == SAID and CUT_TERM.match(words) else None
     return next((tactic for pattern, tactic in FACTS.items() if re.match(pattern, words)), cut)
 
@@ -128,7 +131,7 @@ class Trial(Edit):
 
     def __init__(self, path):
         super().__init__(path)
-        self.counted, self.told = path.parent.name != "must-fail", ""
+        self.counted, self.told, self.tried = path.parent.name != "must-fail", "", False
         self.functions, self.constants, self.texts = set(), set(), {}
 
     def find(self):
@@ -275,7 +278,7 @@ def judged(edit, said, whole):
     """Whether an edit is refused for the right reason, and the verdict in words."""
     if said is None:
         crate = re.findall(rf"^rt: {edit.crate}\b.*", whole, re.M)
-        return False, f"BAD EDIT: {fault(f'{NO_VERDICT}: ' + (crate[-1] if crate else whole[-300:]).strip())}"
+        return False, f"BAD EDIT: {fault('no verdict: ' + (crate[-1] if crate else whole[-300:]).strip())}"
     if said.startswith("NOT REFUSED"):
         return False, fault(f"NOT REFUSED in {' and '.join(sorted(str(one) for one in edit.meant))}")
     reason = re.fullmatch(r"refused, as it must be: (.*)", said, re.S)
@@ -302,6 +305,7 @@ def try_all(by_crate):
     left = {name: some for name, edits in by_crate.items() for some in [[edit for edit in edits if edit not in verdicts]] if some}
     said, whole = said_by_rt(left) if left else ({}, "")
     for edit in (edit for edits in left.values() for edit in edits):
+        edit.tried = True
         verdicts[edit] = judged(edit, said.get((edit.crate, edit.label)), whole)
     for name, edits in by_crate.items():
         for edit in edits:
@@ -323,6 +327,9 @@ NO_REASON = (
     *(f"refused, as it must be: {words:.{SAID}}" for words in (
         "./proofs/half/Answers.antt:12:13: error: `returns`: `c.requires.1.1.1.0 (laid (words (accepted (values_of c.counted))) 0 c.out.old) (c.ensures.value ∙ sym c.ensures.after)` has no field `word`",
         "./proofs/half/Answers.antt:12:13: error: `returns`: `omega`: it gave up at one of its limits",
+        "./proofs/half/Answers.antt:12:13: error: `returns`: `simp`: it gave up at one of its limits",
+        "./proofs/half/Answers.antt:12:13: error: `returns`: `simp`: `law` is not in scope",
+        "./proofs/half/Answers.antt:12:13: error: `returns`: `search`: no proof of `x`: it gave up at one of its limits",
         "./proofs/half/Answers.antt:12:13: error: `returns`: `grind`: the proof that it wrote is not well typed: x. A step rewrites what a type beside it depends on",
     )),
     "refused, as it must be: ./proofs/half/Answers.antt:12:13: error: `returns`: `Rattle.fields.specs.Field.half",
@@ -356,8 +363,8 @@ def try_the_tool(folder):
         edit = trial_of(path)
         by_crate.setdefault(edit.crate, []).append(edit)
     verdicts = try_all(by_crate)
-    # of an edit without a verdict nothing is known
-    believed = sum(right or NO_VERDICT in edit.told for edit, right in verdicts)
+    # an edit that rt tries must be proved; of one without a verdict nothing is known
+    believed = sum(edit.tried and not edit.told.startswith("NOT REFUSED") for edit, _ in verdicts)
     print(f"{len(verdicts) - believed} edits that show nothing reported as such, {believed} not")
     return 0 if verdicts and not believed else 1
 
@@ -370,6 +377,12 @@ def without_own(name, edits):
     refused |= {function for edit in edits for function in re.findall(r"at (\S+): ", edit.told) if function in EARLIER_GOAL}
     public = [f"{name}::{function.path}" for function in promises.Crate(name).public]
     return [function for function in public if function not in refused]
+
+
+def twice(edits):
+    """The labels that two edits have: in the copy one would take the place of the other."""
+    labels = [edit.label for edit in edits]
+    return sorted({label for label in labels if labels.count(label) > 1})
 
 
 def main(wanted):
@@ -386,6 +399,7 @@ def main(wanted):
     faults = [fault(f"wrong: {path} has no edit that is refused at its own promise") for path in bare]
     if not verdicts:
         faults.append(fault("wrong: no edit was tried"))
+    faults += [fault(f"wrong: {name} has two edits {label}") for name in by_crate for label in twice(by_crate[name])]
     print("".join(f"{one}\n" for one in faults) + f"{refused} wrong answers refused, {failed} not")
     return 1 if failed or faults else 0
 

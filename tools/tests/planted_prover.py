@@ -60,6 +60,10 @@ class Prover:
             return "NOT REFUSED: the crate is still proved with this edit"
         if self.fails == "says no place":
             return "refused, as it must be"
+        if self.fails == "names no goal":
+            return "refused, as it must be: the check stopped here"
+        if self.fails == "does not try":
+            return "NOT TRIED: its check was killed, most likely for memory, so nothing is known of it: run this again"
         words = {"says no reason": "this λ has 2 binders", "says a term": "`laid (words)`", "says a cut term": "`Rattle.fields.specs.Field.laid (" + "words " * 30,
                  "says a field": "`c` has no field `word`", "says a cut field": "`c.requires.1.1.1.0 (laid (" + "words " * 30}.get(self.fails, FACT)
         if file.startswith("specs/") or not functions_changed and not file.startswith("src/"):
@@ -139,9 +143,11 @@ IN_WRONG = [
     Planted("a definition that is refused", fails("refuses a definition"), "a_row_is_missing: BAD EDIT: no theorem is refused, but"),
     Planted("no refusal at a promise", fails("refuses on the way"), "wrong: fields::half has no edit that is refused at its own promise"),
     Planted("a refusal that names the line of the function", fails("names a line of code"), None),
-    Planted("a goal that is not named", lambda room: room.write("tools/gate/wrong_answers.py", room.read("tools/gate/wrong_answers.py").replace("(?:(?:src|proofs)/", "(?:(?:nowhere)/").replace(
-        '((?:src|proofs)/', '((?:nowhere)/')), "half_factor: BAD EDIT: no goal is named"),
+    Planted("a goal that is not named", fails("names no goal"), "half_factor: BAD EDIT: no goal is named"),
+    Planted("two edits of one name", created("crates/fields/must-fail/half_factor.edit", NEXT + "let next = at + 2;\n"), "^wrong: fields has two edits half_factor$"),
     Planted("no verdict on an edit that shows nothing", all_of(fails("no verdict"), created("bad/planted.edit", "crate: fields\n" + NEXT + "let next = at + 2;\n")),
+            "^0 edits that show nothing reported as such, 1 not", ("--try", "bad")),
+    Planted("an edit that shows nothing and is not tried", all_of(fails("does not try"), created("bad/planted.edit", "crate: fields\n" + NEXT + "let next = at + 2;\n")),
             "^0 edits that show nothing reported as such, 1 not", ("--try", "bad")),
     Planted("an edit that shows nothing", all_of(fails("proves all"), created("bad/planted.edit", "crate: fields\n" + NEXT + "let next = at + 2;\n")), None, ("--try", "bad")),
     Planted("no edit that is tried", nothing, "wrong: no edit was tried", ("nowhere",)),
@@ -160,7 +166,8 @@ IN_WRONG = [
             "planted: BAD EDIT: there is no function fields::nobody"),
     Planted("an edit of spaces alone", edit(NEXT + "let  next = at + 1;\n"), "planted: BAD EDIT: the code of fields::half stays the same"),
     Planted("the parts of a sum exchanged", edit(NEXT + "let next = 1 + at;\n"), "planted: BAD EDIT: the code of fields::half stays the same"),
-    Planted("the parts of a difference exchanged", edit(NEXT.replace("at + 1", "at + 1") + "let next = 1 - at;\n"), "planted: BAD EDIT: fields::half does other steps than before"),
+    Planted("a sum that becomes a difference", edit(NEXT + "let next = 1 - at;\n"), "planted: BAD EDIT: fields::half does other steps than before"),
+    Planted("the parts of a difference exchanged", all_of(changed("crates/fields/src/lib.rt", r"let next = at \+ 1", "let next = at - 1"), edit(NEXT.replace("at + 1", "at - 1") + "let next = 1 - at;\n")), None),
     Planted("an edit with another call", edit(NEXT + "let next = at + 1; byte(b, at);\n"), "planted: BAD EDIT: fields::half does other steps than before"),
     Planted("an edit with another sum", edit(NEXT + "let next = at + 1 + 0;\n"), "planted: BAD EDIT: fields::half does other steps than before"),
     Planted("an edit with a branch less", edit(CODE + "old:     if at < b.len() { b[at] } else { 0 }\nnew:     b[at]\n"), "planted: BAD EDIT: fields::byte does other steps than before"),

@@ -122,6 +122,32 @@ def rescue(room):
     huge.unlink()
 
 
+def late(room):
+    """tablerescue on a terminal that ends and then has more bytes: OUT stays as it is."""
+    leader, follower = os.openpty()
+    os.write(leader, b"first\n\4later\n\4")
+    place = room / "out"
+    place.write_bytes(b"old")
+    done = run([*command("tablerescue"), os.ttyname(follower), str(room / "new"), str(place)])
+    must("tablerescue, bytes after the end: reported", (done.stdout, done.stderr.endswith(b": Input/output error\n")) == (b"", True), done)
+    must("tablerescue, bytes after the end: OUT", place.read_bytes() == b"old" and not (room / "new").exists())
+    os.close(leader)
+    os.close(follower)
+
+
+def names_and_outputs(room):
+    """A file name that is not UTF-8 is reported, and a write that fails ends the program with status 1."""
+    odd = os.fsencode(room) + b"/\xff"
+    pathlib.Path(os.fsdecode(odd)).write_bytes((SAMPLES / "example.table").read_bytes())
+    for name, more in (("tablecheck", []), ("tablerescue", ["new", "out"]), ("tablefigures", [])):
+        told = run([*command(name), odd, *more], cwd=room)
+        must(f"{name}, a name that is not text", told.stdout == b"" and told.stderr.startswith(b"the file's name: Invalid"), told)
+        with open("/dev/full", "wb") as full:
+            words = [*command(name), str(SAMPLES / "example.table"), *more]
+            left = subprocess.run(words, stdout=full, stderr=subprocess.PIPE, cwd=room)
+        must(f"{name}, a full device", left.returncode == 1 and b"No space left" in left.stderr, left)
+
+
 def figures(room):
     """tablefigures on the samples, on many files through its buffer, and on what cannot be read."""
     place, one, whole = room / "in.tables", (SAMPLES / "example.table").read_bytes(), largest()
@@ -158,7 +184,7 @@ def main():
             print(f"try_programs: {name} is not built; rt ci makes it")
             return 2
     with tempfile.TemporaryDirectory() as folder:
-        for trials in (check, rescue, figures, ended):
+        for trials in (check, rescue, late, names_and_outputs, figures, ended):
             trials(pathlib.Path(folder))
     print("\n".join(f"try_programs: {fault}" for fault in FAULTS) or f"try_programs: {len(TRIED)} trials of the programs came out as they must")
     return 1 if FAULTS else 0

@@ -28,7 +28,7 @@ const MOST_COUNTED: u64 = 0x4000_0000_0000_0000;
 const MOST_NAME: usize = 4096;
 
 // The system's numbers of the reasons why an argument names no file: there is none, it is too long, or it is not text;
-// and why a file is not read to its end: it is too long.
+// and why a file is not read as a whole: it is too long, or more bytes came after its end.
 const NO_NAME: i32 = 22;
 
 const NAME_TOO_LONG: i32 = 36;
@@ -36,6 +36,8 @@ const NAME_TOO_LONG: i32 = 36;
 const NOT_TEXT: i32 = 84;
 
 const FILE_TOO_LONG: i32 = 27;
+
+const READ_FAILED: i32 = 5;
 
 fn main(rt: HostRuntime) -> io::Result<()> {
     let mut path = [0u8; MOST_NAME];
@@ -73,6 +75,10 @@ fn run(rt: &HostRuntime, file: &mut impl Read, name: &str) -> io::Result<()> {
         Ok(more) => more,
         Err(why) => return fail(rt, name, why),
     };
+    // the first part ended, and bytes came after it: the file has changed, so nothing is written
+    if (n < MOST_FILE) & (0 < more) {
+        return fail(rt, name, io::Error::from_raw_os_error(READ_FAILED));
+    }
     save(rt, &input[0..n], more)
 }
 
