@@ -67,7 +67,8 @@ class Function:
         begin = re.compile(r"\s*").match(code, at).end()
         if code[begin:begin + 1] != "{":
             raise Unread(fault(f"{self.name}: the text between its contract and its body"))
-        self.promised = any(word == "ensures" for word, _ in self.clauses)
+        # what a trait's method promises stands at the trait
+        self.promised = any(word == "ensures" for word, _ in self.clauses) or holder in source.of_traits
         self.body = (begin, closing(code, begin))
         self.words = words_above(source.text[:head.start()])
 
@@ -86,8 +87,9 @@ class Source:
         self.modules = [] if inner in ("lib", "main") else inner.split("/")
         if re.search(r"\b(trait|macro_rules)\b", self.code):
             raise Unread(fault(f"{crate}/{file} has a trait or a macro"))
-        impls = re.finditer(r"^impl (\w+) (?=\{)", self.code, re.M)
-        self.impls = [(found[1], found.end(), closing(self.code, found.end())) for found in impls]
+        impls = list(re.finditer(repository.IMPL + r"(?:<[^>]*>)? (?=\{)", self.code, re.M))
+        self.impls = [(repository.holder(found), found.end(), closing(self.code, found.end())) for found in impls]
+        self.of_traits = {repository.holder(found) for found in impls if found[1]}
         self.functions = [Function(self, head, self.holder_at(head.start())) for head in FUNCTION.finditer(self.code)]
         if len(self.functions) != len(re.findall(r"\bfn\s+\w", self.code)):
             raise Unread(fault(f"{crate}/{file} has a function that does not begin its line as rt fmt has it"))
@@ -191,14 +193,25 @@ def home_of(module, name):
 def logic_type(kind):
     """A type of the source as the logic writes it."""
     kind = re.sub(r"^&(?:'\w+ )?(?:mut )?", "", kind)
+    if kind == "()":
+        return "Unit {0}"
     if kind.startswith("["):
-        inner = logic_type(kind[1:-1].partition(";")[0].strip())
-        return f"List {inner}" if " " not in inner else f"List ({inner})"
+        return f"List {in_brackets(kind[1:-1].partition(';')[0].strip())}"
+    if kind.startswith("("):
+        return " × ".join(in_brackets(part) for part in split_at_commas(kind[1:-1]))
+    if made := re.fullmatch(r"(Option|Result)<(.+)>", kind):
+        return " ".join([made[1], *(in_brackets(part) for part in split_at_commas(made[2]))])
     if kind in NUMBERS:
         return "ℕ"
     if not re.fullmatch(r"(?:\w+::)*\w+", kind):
         raise Unread(fault(f"the type {kind}"))
     return "Bool" if kind == "bool" else kind.rpartition("::")[2]
+
+
+def in_brackets(kind):
+    """A type of the source as the logic writes it within another type."""
+    inner = logic_type(kind)
+    return f"({inner})" if " " in inner else inner
 
 
 def quoted(name):

@@ -199,7 +199,7 @@ def constants():
     largest = block * number("tablefile/src/lib.rt", "MOST_BLOCKS")
     wanted = {
         "ACCEPTED": int(found_in("starlark_checks/specs/Words.antt", r"^number \(accepted vs\) = (\d+)$")),
-        "NONE": int(found_in("starlark_checks/src/lib.rt", r"^        Place::Nothing => (0x[\dA-F_]+),$"), 16),
+        "NONE": int(found_in("starlark_checks/src/lib.rt", r"^    p\.unwrap_or\((0x[\dA-F_]+)\)$"), 16),
         "WORDS": int(found_in("starlark_checks_c/src/lib.rt", r"^pub extern .*out: &mut \[u32; (\d+)\]\)")),
         "FIGURES": number("figures/src/lib.rt", "FIGURES"),
         "MOST_FILES": number("figures/src/lib.rt", "MOST_FILES"),
@@ -237,7 +237,7 @@ def enum_of(name):
 
 def enums():
     """The enums that are written by hand, and the places of figures."""
-    editions = dict(re.findall(r"\(eqb n (\d+)\) \(λ _\. Known (One|Two)\)", (CRATES / "dialect" / "specs" / "Editions.antt").read_text()))
+    editions = dict(re.findall(r"\(eqb n (\d+)\) \(λ _\. Some (One|Two)\)", (CRATES / "dialect" / "specs" / "Editions.antt").read_text()))
     if enum_of("edition") != {{"One": "1", "Two": "2"}[of]: int(word) for word, of in editions.items()}:
         report(fault("include/starlark.h: enum starlark_edition does not have the editions of crates/dialect/specs/Editions.antt"))
     words = dict(re.findall(r"\(eqb kind (\d+)\) \(λ _\. (text|str|repr)", (CRATES / "fstring" / "specs" / "Words.antt").read_text()))

@@ -18,6 +18,7 @@ def root():
 ROOT = root()
 CRATES = ROOT / "crates"
 HEAD = r"(?:pub(?:\(crate\))? )?(?:extern \"C\" )?fn "  # how a function begins
+IMPL = r"^impl(?:<[^>]*>)? (?:(?:\w+::)*(\w+)(?:<[^>]*>)? for )?(\w+)"  # how an impl begins: the trait, if it is of one, and the type
 
 
 def crates():
@@ -122,6 +123,11 @@ def edits(name):
     return [Edit(path) for folder in ("must-fail", "wrong") for path in sorted((CRATES / name / folder).glob("*.edit"))]
 
 
+def holder(found):
+    """An impl as the prover names it: by its type, then its trait if it is of one."""
+    return found[2] + (found[1] or "")
+
+
 def function_at(crate, file, before):
     """The function in which the text before a place ends, as the prover names it: a method by its type. None outside of functions."""
     named = re.findall(rf"^( *){HEAD}(\w+)", before, re.M)
@@ -129,7 +135,7 @@ def function_at(crate, file, before):
         return None
     indent, name = named[-1]
     if indent:
-        return "::".join([crate, re.findall(r"^impl (\w+)", before, re.M)[-1], name])
+        return "::".join([crate, holder(list(re.finditer(IMPL, before, re.M))[-1]), name])
     modules = [] if file == "src/lib.rt" else file.removeprefix("src/").removesuffix(".rt").split("/")
     return "::".join([crate, *modules, name])
 

@@ -3,6 +3,7 @@
 -- (Names' `names_new`), so the walk goes to the end and counts every argument (`run_counted`; the induction is on the
 -- arguments that are left). Counting p positional, n named, a star and a `**` in this order gives these numbers and
 -- places (`positional_counted`, `named_counted`, `stars_counted`). Assumes nothing.
+use Rattle.std.specs.Prelude.{None, Option, Some, ℕ}
 use mathlib.Core.Path.{◌≡◌, refl, sym, ap, ◌∙◌}
 use mathlib.Core.Bool.{false}
 use mathlib.Core.List.{List, [], ◌∷◌, ◌++◌}
@@ -11,10 +12,7 @@ use native.Mathlib.Omega.{arith}
 use lib.ListN.{length, replicate, length-append}
 use lib.Seq.{append_snoc}
 use Rattle.forest.specs.Names.{Distinct}
-use Rattle.forest.specs.declared.Found.TheVariants.{Nothing as NotFound}
 use Rattle.fields.proofs.Basics.{never}
-use Rattle.table.specs.declared.Place.{Place}
-use Rattle.table.specs.declared.Place.TheVariants.{At, Nothing}
 use Rattle.arguments.specs.Written.{Argument, kind_in}
 use Rattle.arguments.specs.Call.{past_named, in_kwargs, rule, check, next_stage, counts, count, advance, given}
 use Rattle.arguments.specs.Call.{unpacked, bit, run, start, unpack}
@@ -40,7 +38,7 @@ one_on n m = omega arith
 -- arguments of these kinds may follow at a stage, names aside
 abbrev Follows : ArgsStage → List Kind → Type 0
 Follows s [] = Unit {0}
-Follows s (k ∷ ks) = (rule s NotFound k ≡ Fine) × Follows (next_stage s k) ks
+Follows s (k ∷ ks) = (rule s None k ≡ Fine) × Follows (next_stage s k) ks
 
 not_last : (s : ArgsStage) → past_named s ≡ false → in_kwargs s ≡ false
 not_last AtPositional e = refl
@@ -48,24 +46,24 @@ not_last AtNamed e = refl
 not_last AtArgs e = never (cc)
 not_last AtKwargs e = never (cc)
 
-module _ (k : Place) where
+module _ (k : Option ℕ) where
   kwargs_follow : (s : ArgsStage) → in_kwargs s ≡ false → Follows s (one k KwArgs)
   kwargs_follow s h = go k
     where
-      go : (k : Place) → Follows s (one k KwArgs)
-      go (At i) = (rw h refl, tt)
-      go Nothing = tt
+      go : (k : Option ℕ) → Follows s (one k KwArgs)
+      go (Some i) = (rw h refl, tt)
+      go None = tt
 
-  args_follow : (a : Place) (s : ArgsStage) → past_named s ≡ false → Follows s (one a Args ++ one k KwArgs)
-  args_follow (At i) s h = (rw h refl, kwargs_follow AtArgs refl)
-  args_follow Nothing s h = kwargs_follow s (not_last s h)
+  args_follow : (a : Option ℕ) (s : ArgsStage) → past_named s ≡ false → Follows s (one a Args ++ one k KwArgs)
+  args_follow (Some i) s h = (rw h refl, kwargs_follow AtArgs refl)
+  args_follow None s h = kwargs_follow s (not_last s h)
 
-  named_follow : (n : ℕ) (a : Place) (s : ArgsStage) → past_named s ≡ false
+  named_follow : (n : ℕ) (a : Option ℕ) (s : ArgsStage) → past_named s ≡ false
       → Follows s (replicate n Named ++ (one a Args ++ one k KwArgs))
   named_follow zero a s h = args_follow a s h
   named_follow (suc n) a s h = (rw h refl, named_follow n a AtNamed refl)
 
-  all_follow : (p n : ℕ) (a : Place)
+  all_follow : (p n : ℕ) (a : Option ℕ)
       → Follows AtPositional (replicate p Positional ++ (replicate n Named ++ (one a Args ++ one k KwArgs)))
   all_follow zero n a = named_follow n a AtPositional refl
   all_follow (suc p) n a = (refl, all_follow p n a)
@@ -90,22 +88,22 @@ run_counted before (p ∷ ps) w o f d =
 
 -- m positional ones counted, m named ones, then a star and a `**`
 positional_counted : (m p n i : ℕ) (ks : List Kind)
-    → counted (counts p n Nothing Nothing) i (replicate m Positional ++ ks)
-    ≡ counted (counts (p + m) n Nothing Nothing) (i + m) ks
+    → counted (counts p n None None) i (replicate m Positional ++ ks)
+    ≡ counted (counts (p + m) n None None) (i + m) ks
 positional_counted zero p n i ks = rw (add_none p, add_none i) refl
 positional_counted (suc m) p n i ks = positional_counted m (p + 1) n (i + 1) ks ∙ rw (one_on p m, one_on i m) refl
 
-named_counted : (m p n i : ℕ) (ks : List Kind) → counted (counts p n Nothing Nothing) i (replicate m Named ++ ks)
-    ≡ counted (counts p (n + m) Nothing Nothing) (i + m) ks
+named_counted : (m p n i : ℕ) (ks : List Kind) → counted (counts p n None None) i (replicate m Named ++ ks)
+    ≡ counted (counts p (n + m) None None) (i + m) ks
 named_counted zero p n i ks = rw (add_none n, add_none i) refl
 named_counted (suc m) p n i ks = named_counted m p (n + 1) (i + 1) ks ∙ rw (one_on n m, one_on i m) refl
 
-stars_counted : (a k : Place) (p n i : ℕ) → Placed a i → Placed k (i + bit (given a))
-    → counted (counts p n Nothing Nothing) i (one a Args ++ one k KwArgs) ≡ counts p n a k
-stars_counted (At x) (At y) p n i e h = rw (e, h) refl
-stars_counted (At x) Nothing p n i e h = rw e refl
-stars_counted Nothing (At y) p n i e h = let here : y ≡ i = omega arith in rw here refl
-stars_counted Nothing Nothing p n i e h = refl
+stars_counted : (a k : Option ℕ) (p n i : ℕ) → Placed a i → Placed k (i + bit (given a))
+    → counted (counts p n None None) i (one a Args ++ one k KwArgs) ≡ counts p n a k
+stars_counted (Some x) (Some y) p n i e h = rw (e, h) refl
+stars_counted (Some x) None p n i e h = rw e refl
+stars_counted None (Some y) p n i e h = let here : y ≡ i = omega arith in rw here refl
+stars_counted None None p n i e h = refl
 
 -- THEOREM: a list in order with distinct names is accepted, with its counts and places
 pub ordered_unpacked : (l : List Argument) (c : CallArgs) → Ordered l c → unpack l ≡ unpacked c

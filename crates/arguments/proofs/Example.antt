@@ -1,6 +1,7 @@
 -- What the theorems on accepted calls suppose can be met: the call of `f(x, a=1, *s, **k)`, node 1 of table's example.
 -- Its arguments are in order, one of each kind, so the job accepts it with these counts and places. By computation.
 -- Assumes nothing.
+use Rattle.std.specs.Prelude.{Some}
 use mathlib.Core.Path.{◌≡◌, refl}
 use mathlib.Core.List.{[], ◌∷◌}
 use native.Mathlib.Omega.{arith}
@@ -11,7 +12,6 @@ use Rattle.soundness.specs.Kinds.{kind_of}
 use Rattle.table.specs.Answer.{accepted}
 use Rattle.table.specs.Check.{wants, node_fits, stretch_of}
 use Rattle.table.specs.Example.{table, names}
-use Rattle.table.specs.declared.Place.TheVariants.{At}
 use Rattle.table.proofs.Example.{sound}
 use Rattle.arguments.specs.Written.{kind_at, argument_of, arguments_in, arguments_of}
 use Rattle.arguments.specs.Accepted.{Ordered}
@@ -21,7 +21,7 @@ use Rattle.arguments.proofs.AcceptedCalls.{ordered_accepted}
 
 -- one positional, one named, the star third and the `**` fourth, counted from 0
 abbrev pub counts : CallArgs
-counts = record { num_pos = 1; num_named = 1; star = At 2; star_star = At 3 }
+counts = record { num_pos = 1; num_named = 1; star = Some 2; star_star = Some 3 }
 
 -- the arguments are in order
 pub ordered : Ordered (arguments_of names (tree_of 1 (stretch_of table 1))) counts

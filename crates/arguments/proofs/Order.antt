@@ -3,6 +3,7 @@
 -- it, kind by kind and stage by stage (`walked_more`). So the places that `unpack` would find taken are free, and its
 -- internal errors never arise (`no_internal_error`); and an accepted list is in order with distinct names
 -- (`unpacked_ordered`). Both are by induction on the arguments that are left. Assumes nothing.
+use Rattle.std.specs.Prelude.{None, Option, Some, ℕ}
 use mathlib.Core.Path.{◌≡◌, refl, sym, ap, ◌∙◌}
 use mathlib.Core.Bool.{false}
 use mathlib.Core.List.{List, [], ◌∷◌, ◌++◌, append_assoc, append-nil}
@@ -14,9 +15,6 @@ use lib.Seq.{append_snoc}
 use borrow.Author.Tests.{eq-eqb}
 use Rattle.forest.specs.Names.{Distinct}
 use Rattle.fields.proofs.Basics.{never}
-use Rattle.forest.specs.declared.Found.{Found}
-use Rattle.table.specs.declared.Place.{Place}
-use Rattle.table.specs.declared.Place.TheVariants.{At, Nothing}
 use Rattle.arguments.specs.Written.{Argument, kind_in}
 use Rattle.arguments.specs.Call.{rule, check, next_stage, count, advance, given, taken, Outcome, unpacked}
 use Rattle.arguments.specs.Call.{refused_with, repeated_name, internal_error, bit, total, run}
@@ -42,9 +40,9 @@ replicate_more n k = simp add-one (go n)
 
 -- what no argument was yet, at a stage
 abbrev Free : ArgsStage → CallArgs → Type 0
-Free AtPositional c = (c.num_named ≡ 0) × (c.star ≡ Nothing) × (c.star_star ≡ Nothing)
-Free AtNamed c = (c.star ≡ Nothing) × (c.star_star ≡ Nothing)
-Free AtArgs c = c.star_star ≡ Nothing
+Free AtPositional c = (c.num_named ≡ 0) × (c.star ≡ None) × (c.star_star ≡ None)
+Free AtNamed c = (c.star ≡ None) × (c.star_star ≡ None)
+Free AtArgs c = c.star_star ≡ None
 Free AtKwargs c = Unit {0}
 
 -- the walk over arguments of these kinds has come to a stage, and has counted them
@@ -54,9 +52,9 @@ pub record Order (ks : List Kind) (s : ArgsStage) (c : CallArgs) : Type 0 where
   pub star_at : Placed c.star (c.num_pos + c.num_named)
   pub kwargs_at : Placed c.star_star (c.num_pos + c.num_named + bit (given c.star))
 
-one_long : (p : Place) (k : Kind) → length (one p k) ≡ bit (given p)
-one_long (At i) k = refl
-one_long Nothing k = refl
+one_long : (p : Option ℕ) (k : Kind) → length (one p k) ≡ bit (given p)
+one_long (Some i) k = refl
+one_long None k = refl
 
 -- LAW: as many as there are
 pub order_total : {ks : List Kind} {s : ArgsStage} {c : CallArgs} → Order ks s c → length ks ≡ total c
@@ -76,7 +74,7 @@ module _ (ks : List Kind) (c : CallArgs) where
   }
 
   module _ {s : ArgsStage} (o : Order ks s c) where
-    more_named : c.star ≡ Nothing → c.star_star ≡ Nothing
+    more_named : c.star ≡ None → c.star_star ≡ None
         → Order (ks ++ Named ∷ []) AtNamed (count c (length ks) Named)
     more_named no_star_lem no_kwargs_lem = record {
       free = (no_star_lem, no_kwargs_lem);
@@ -86,7 +84,7 @@ module _ (ks : List Kind) (c : CallArgs) where
       kwargs_at = rw no_kwargs_lem tt;
     }
 
-    more_args : c.star ≡ Nothing → c.star_star ≡ Nothing
+    more_args : c.star ≡ None → c.star_star ≡ None
         → Order (ks ++ Args ∷ []) AtArgs (count c (length ks) Args)
     more_args no_star_lem no_kwargs_lem = record {
       free = no_kwargs_lem;
@@ -95,7 +93,7 @@ module _ (ks : List Kind) (c : CallArgs) where
       kwargs_at = rw no_kwargs_lem tt;
     }
 
-    more_kwargs : c.star_star ≡ Nothing → Order (ks ++ KwArgs ∷ []) AtKwargs (count c (length ks) KwArgs)
+    more_kwargs : c.star_star ≡ None → Order (ks ++ KwArgs ∷ []) AtKwargs (count c (length ks) KwArgs)
     more_kwargs no_kwargs_lem = record {
       free = tt;
       kinds = rw (o.kinds, no_kwargs_lem) (simp (append-nil, append_assoc));
@@ -104,7 +102,7 @@ module _ (ks : List Kind) (c : CallArgs) where
     }
 
 -- LAW: an argument that keeps its rule was not given before, and is in order
-pub more : (ks : List Kind) (s : ArgsStage) (c : CallArgs) (k : Kind) (f : Found) → rule s f k ≡ Fine → Order ks s c
+pub more : (ks : List Kind) (s : ArgsStage) (c : CallArgs) (k : Kind) (f : Option ℕ) → rule s f k ≡ Fine → Order ks s c
     → (taken c k ≡ false) × Order (ks ++ k ∷ []) (next_stage s k) (count c (length ks) k)
 more ks AtPositional c Positional f e o = (refl, more_positional_lem ks c o)
 more ks AtNamed c Positional f e o = never (cc)

@@ -2,6 +2,7 @@
 -- to 24, the span of a name, and what a refusal carries. The tests before a return are known, so the definition
 -- computes; nothing here recurs. The last laws put the rule of a list behind the checks of `judge` and `call`. Assumes
 -- nothing.
+use Rattle.std.specs.Prelude.{None, Option, Some, ℕ}
 use mathlib.Core.Path.{◌≡◌, refl, sym, ap, ◌∙◌}
 use mathlib.Core.Bool.{Bool, true, false}
 use mathlib.Core.List.{List, [], ◌∷◌, ◌++◌}
@@ -15,8 +16,6 @@ use Rattle.forest.specs.Forest.{Node, node_of, span_of, forest, tree_of}
 use Rattle.forest.specs.Names.{name_of, same}
 use Rattle.forest.proofs.Stretch.{forest_none, forest_tree, kids_part, rest_part, record_or_none}
 use Rattle.soundness.specs.KindNumbers.{kind_positional, kind_named, kind_args_arg}
-use Rattle.forest.specs.declared.Found.{Found}
-use Rattle.forest.specs.declared.Found.TheVariants.{At, Nothing}
 use Rattle.table.specs.Numbers.{named_after_star, repeated_named}
 use Rattle.table.specs.Answer.{Answer, accepted, refused, span_values}
 use Rattle.table.specs.Check.{is_headed, headed_of}
@@ -69,23 +68,24 @@ module _ (ns x t : List ℕ) {k : ℕ} (k_is : k ≡ (node_of 0 t).kind) where
 
 -- what an argument repeats: one with another kind nothing, a named one the first of its name
 module _ (ns : List ℕ) (before : List Argument) (t : List ℕ) {k : ℕ} (k_is : k ≡ (node_of 0 t).kind) where
-  pub repeats_none : (k ≡ kind_named → ⊥) → Nothing ≡ repeats before (argument_of ns (node_of 0 t))
+  pub repeats_none : (k ≡ kind_named → ⊥) → None ≡ repeats before (argument_of ns (node_of 0 t))
   unfolding argument_of repeats kind_at
   repeats_none d = rw (← k_is, ne_eqb k kind_named d) (go (eqb k kind_positional) (eqb k kind_args_arg) _ _)
     where
       go : (p q : Bool) (r : Node) (n : Name)
-          → Nothing ≡ repeats before (argument (if' p (λ _. Positional) (λ _. if' q (λ _. Args) (λ _. KwArgs))) r n)
+          → None ≡ repeats before (argument (if' p (λ _. Positional) (λ _. if' q (λ _. Args) (λ _. KwArgs))) r n)
       go true q r n = refl
       go false true r n = refl
       go false false r n = refl
 
-  pub repeats_named : k ≡ kind_named → {x : Name} {r : Found} → x ≡ name_of ns (node_of 0 t) → r ≡ first_same x before
+  pub repeats_named : k ≡ kind_named → {x : Name} {r : Option ℕ} → x ≡ name_of ns (node_of 0 t)
+      → r ≡ first_same x before
       → r ≡ repeats before (argument_of ns (node_of 0 t))
   unfolding argument_of repeats
   repeats_named h x-is r-is = r-is ∙ rw (← (kind_named_lem k_is h), x-is) refl
 
 -- a name that is found is repeated, with what was found
-pub new_found : (f : Found) {i : ℕ} → f ≡ At i → Repeated i ≡ new_name f
+pub new_found : (f : Option ℕ) {i : ℕ} → f ≡ Some i → Repeated i ≡ new_name f
 new_found f h = rw h refl
 
 pub carried_small : (c : Check) {i : ℕ} → SmallCheck c → c ≡ Repeated i → i < 4294967296
@@ -96,15 +96,15 @@ pub refused_again : (c : Check) (r : Node) {i n : ℕ} {s : Span} {x : Answer} �
 refused_again c r h x-is s-is n_is = x-is ∙ rw (h, s-is, n_is) refl
 
 -- the stage chooses 21, and the kind the rule
-pub named_late : (s : ArgsStage) (f : Found) {b : Bool} → b ≡ past_named s → b ≡ true
+pub named_late : (s : ArgsStage) (f : Option ℕ) {b : Bool} → b ≡ past_named s → b ≡ true
     → Broken named_after_star ≡ named_rule s f
 named_late s f b_is late = rw (← b_is, late) refl
 
-pub named_new : (s : ArgsStage) (f : Found) {b : Bool} {r : Check} → b ≡ past_named s → b ≡ false → r ≡ new_name f
+pub named_new : (s : ArgsStage) (f : Option ℕ) {b : Bool} {r : Check} → b ≡ past_named s → b ≡ false → r ≡ new_name f
     → r ≡ named_rule s f
 named_new s f b_is early r-is = rw (← b_is, early) r-is
 
-pub rule_named : (s : ArgsStage) (f : Found) {k : Kind} {r : Check} → k ≡ Named → r ≡ named_rule s f → r ≡ rule s f k
+pub rule_named : (s : ArgsStage) (f : Option ℕ) {k : Kind} {r : Check} → k ≡ Named → r ≡ named_rule s f → r ≡ rule s f k
 rule_named s f h r-is = rw h r-is
 
 rest_short : (l : List ℕ) (c : ℕ) → length l < 24 → length (take (length l - c) (drop c l)) < 24

@@ -2,6 +2,7 @@
 -- node. `unpack` reads the arguments from the left and stops at the first name that it has seen (`run_told`). So among
 -- those that are read no name comes twice (`Fresh`), and the first that has the name is the only one (forest's
 -- `only_one`). Assumes nothing.
+use Rattle.std.specs.Prelude.{None, Option, Some, ℕ}
 use mathlib.Core.Path.{◌≡◌, refl, sym, ap, ◌∙◌}
 use mathlib.Core.Bool.{Bool, true, false}
 use mathlib.Core.List.{List, [], ◌∷◌, ◌++◌, append_assoc, append-nil}
@@ -11,10 +12,8 @@ use lib.ListN.{length}
 use Rattle.fields.specs.Choice.{if'}
 use Rattle.fields.proofs.Basics.{never}
 use Rattle.forest.specs.Forest.{Node, node_of, span_of, kids_of, rest_of, forest, tree_of}
-use Rattle.forest.specs.declared.Found.{Found}
-use Rattle.forest.specs.declared.Found.TheVariants.{At, Nothing}
 use Rattle.forest.proofs.Named.{same_bytes_refl, same_bytes_equal}
-use Rattle.forest.proofs.Stretch.{forest_induction, forest_none, forest_tree, rest_part, record_or_none}
+use Rattle.forest.proofs.Stretch.{forest_induction, forest_none, forest_tree, record_or_none}
 use Rattle.forest.proofs.Firsts.{found_first, Fresh, only_one, Rising, rising_first, rising_lower, rising_before}
 use Rattle.table.specs.Numbers.{named_after_star, repeated_named}
 use Rattle.table.specs.Answer.{refused, OnlyCarries, span_values}
@@ -39,26 +38,26 @@ use Rattle.arguments.proofs.Order.{run_last}
 use Rattle.arguments.proofs.Walking.{node_in_lem, list_end, list_on, searches}
 
 -- a name that is repeated was found
-found_repeated : (s : ArgsStage) (f : Found) (k : Kind) {i : ℕ} → rule s f k ≡ Repeated i → f ≡ At i
+found_repeated : (s : ArgsStage) (f : Option ℕ) (k : Kind) {i : ℕ} → rule s f k ≡ Repeated i → f ≡ Some i
 found_repeated s f Positional {i} e = other (past_positional s) _ e
   where
-    other : (b : Bool) (n : ℕ) → if' b (λ _. Broken n) (λ _. Fine) ≡ Repeated i → f ≡ At i
+    other : (b : Bool) (n : ℕ) → if' b (λ _. Broken n) (λ _. Fine) ≡ Repeated i → f ≡ Some i
     other true n e = never (cc)
     other false n e = never (cc)
 found_repeated s f Named {i} e = go (past_named s) f e
   where
-    go : (b : Bool) (f : Found) → if' b (λ _. Broken named_after_star) (λ _. new_name f) ≡ Repeated i → f ≡ At i
+    go : (b : Bool) (f : Option ℕ) → if' b (λ _. Broken named_after_star) (λ _. new_name f) ≡ Repeated i → f ≡ Some i
     go true f e = never (cc)
-    go false (At j) e = let same : j ≡ i = cc in ap At same
-    go false Nothing e = never (cc)
+    go false (Some j) e = let same : j ≡ i = cc in ap Some same
+    go false None e = never (cc)
 found_repeated s f Args {i} e = other (past_named s) _ e
   where
-    other : (b : Bool) (n : ℕ) → if' b (λ _. Broken n) (λ _. Fine) ≡ Repeated i → f ≡ At i
+    other : (b : Bool) (n : ℕ) → if' b (λ _. Broken n) (λ _. Fine) ≡ Repeated i → f ≡ Some i
     other true n e = never (cc)
     other false n e = never (cc)
 found_repeated s f KwArgs {i} e = other (in_kwargs s) _ e
   where
-    other : (b : Bool) (n : ℕ) → if' b (λ _. Broken n) (λ _. Fine) ≡ Repeated i → f ≡ At i
+    other : (b : Bool) (n : ℕ) → if' b (λ _. Broken n) (λ _. Fine) ≡ Repeated i → f ≡ Some i
     other true n e = never (cc)
     other false n e = never (cc)
 
@@ -72,14 +71,14 @@ other_test : (b : Bool) (n : ℕ) → (n ≡ repeated_named → ⊥) → Other (
 other_test true n d = d
 other_test false n d = tt
 
-other_rule : (s : ArgsStage) (f : Found) (k : Kind) → Other (rule s f k)
+other_rule : (s : ArgsStage) (f : Option ℕ) (k : Kind) → Other (rule s f k)
 other_rule s f Positional = other_test (past_positional s) _ (λ e. omega (arith, e))
 other_rule s f Named = go (past_named s) f
   where
-    go : (b : Bool) (f : Found) → Other (if' b (λ _. Broken named_after_star) (λ _. new_name f))
+    go : (b : Bool) (f : Option ℕ) → Other (if' b (λ _. Broken named_after_star) (λ _. new_name f))
     go true f = λ e. omega (arith, e)
-    go false (At i) = tt
-    go false Nothing = tt
+    go false (Some i) = tt
+    go false None = tt
 other_rule s f Args = other_test (past_named s) _ (λ e. omega (arith, e))
 other_rule s f KwArgs = other_test (in_kwargs s) _ (λ e. omega (arith, e))
 
@@ -90,7 +89,7 @@ record Again (before l : List Argument) (i : ℕ) (r : Node) : Type 0 where
   rest : List Argument
   cut : l ≡ read ++ again ∷ rest
   here : node_in again ≡ r
-  found : repeats (before ++ read) again ≡ At i
+  found : repeats (before ++ read) again ≡ Some i
   fresh : Fresh repeats before read
 
 -- what a refusal of the list is: another number, or 22 with such an argument
@@ -100,7 +99,7 @@ Told before l (refused_with n r) = n ≡ repeated_named → ⊥
 Told before l (repeated_name i r) = Again before l i r
 Told before l internal_error = Unit {0}
 
-told_later : (before : List Argument) (p : Argument) (ps : List Argument) (o : Outcome) → repeats before p ≡ Nothing
+told_later : (before : List Argument) (p : Argument) (ps : List Argument) (o : Outcome) → repeats before p ≡ None
     → Told (before ++ p ∷ []) ps o → Told before (p ∷ ps) o
 told_later before p ps (unpacked a) new t = tt
 told_later before p ps (refused_with n r) new t = t
@@ -117,15 +116,15 @@ told_later before p ps internal_error new t = tt
 
 -- an argument that passes its check repeats no name
 fine_new : (before : List Argument) (s : ArgsStage) (p : Argument) → check before s p ≡ Fine
-    → repeats before p ≡ Nothing
+    → repeats before p ≡ None
 unfolding check repeats
 fine_new before s (positional r) e = refl
 fine_new before s (named r n) e = go (past_named s) (first_same n before) e
   where
-    go : (b : Bool) (f : Found) → if' b (λ _. Broken named_after_star) (λ _. new_name f) ≡ Fine → f ≡ Nothing
+    go : (b : Bool) (f : Option ℕ) → if' b (λ _. Broken named_after_star) (λ _. new_name f) ≡ Fine → f ≡ None
     go true f e = never (cc)
-    go false (At i) e = never (cc)
-    go false Nothing e = refl
+    go false (Some i) e = never (cc)
+    go false None e = refl
 fine_new before s (args r) e = refl
 fine_new before s (kwargs r) e = refl
 
@@ -159,8 +158,8 @@ unfolding unpack
 list_told l = run_told [] l start walked_start
 
 -- a name that is found again is one that the argument has
-repeats_has : (before : List Argument) (p : Argument) {i : ℕ} → repeats before p ≡ At i
-    → (x : Name) × ((has_name x p ≡ true) × (first_same x before ≡ At i))
+repeats_has : (before : List Argument) (p : Argument) {i : ℕ} → repeats before p ≡ Some i
+    → (x : Name) × ((has_name x p ≡ true) × (first_same x before ≡ Some i))
 unfolding repeats has_name
 repeats_has before (positional r) e = never (cc)
 repeats_has before (named r n) e = (n, (same_bytes_refl n, e))
@@ -180,7 +179,7 @@ rising_list : (ns : List ℕ) (k : ℕ) (t : List ℕ) → Rising index_of k (ar
 rising_list ns =
     forest_induction (λ k t. Rising index_of k (arguments_in ns (forest k t)))
     (λ k t s. rw (list_end ns k t s) tt)
-    (λ k t big ks rs. rw (list_on ns k t big refl, rest_part (span_of t) t refl)
+    (λ k t big ks rs. rw (list_on ns k t big refl refl)
     (rising_first index_of (argument_of ns (node_of k t)) (arguments_in ns (forest (k + span_of t / 24) (rest_of t)))
     (ap (λ (r : Node). r.at) (node_in_lem ns (node_of k t)))
     (rising_lower index_of (k + 1) (k + span_of t / 24) (arguments_in ns (forest (k + span_of t / 24) (rest_of t)))

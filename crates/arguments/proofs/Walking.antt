@@ -4,29 +4,26 @@
 -- records is the search among arguments (`list_entries`, by induction on the siblings), and it is skipped only where
 -- the marks show that the name is new (`meets_new`). At the end as many are counted as there are (`walk_end`, Order's
 -- `order_total`). Assumes nothing.
+use Rattle.std.specs.Prelude.{Err, None, Ok, Option, Result, Some, ℕ}
 use mathlib.Core.Path.{◌≡◌, refl, sym, ap, ◌∙◌}
 use mathlib.Core.Bool.{Bool, true, false, ◌&&◌}
 use mathlib.Core.List.{List, [], ◌∷◌, ◌++◌}
-use Prim.Native.Nat.{ℕ, zero, suc, ◌+◌, ◌-◌, ◌*◌, ◌/◌, ◌<◌, ◌≤◌, ◌^◌}
+use Prim.Native.Nat.{ℕ, zero, suc, ◌+◌, ◌*◌, ◌/◌, ◌<◌, ◌≤◌, ◌^◌}
 use native.Mathlib.Nat.{add-zero}
 use native.Mathlib.Omega.{arith}
-use lib.ListN.{length, take, drop, length-take, length-drop, length-append}
+use lib.ListN.{length, take, length-append}
 use lib.Seq.{append_snoc, take-append_seam, take-nil}
 use lib.Dec.{eqb}
 use borrow.Author.Tests.{eqb-true}
 use Rattle.fields.specs.Choice.{if'}
 use Rattle.fields.proofs.Basics.{never}
-use Rattle.forest.specs.Forest.{Node, node_of, span_of, Forest, none, node, ◌then◌, forest, roots}
+use Rattle.forest.specs.Forest.{Node, node_of, span_of, rest_of, Forest, none, node, ◌then◌, forest, roots}
 use Rattle.forest.specs.Names.{name_of, same}
 use Rattle.forest.specs.Marks.{may_stand, noted, Known}
 use Rattle.forest.proofs.Marked.{Searches, known_start, known_named, known_other, known_new}
-use Rattle.forest.specs.declared.Found.{Found}
-use Rattle.forest.specs.declared.Found.TheVariants.{At, Nothing}
-use Rattle.forest.proofs.Stretch.{forest_none, forest_tree, rest_part}
+use Rattle.forest.proofs.Stretch.{forest_none, forest_tree, length_rest}
 use Rattle.table.specs.Answer.{accepted, refusal, checked}
 use Rattle.table.specs.declared.Refusal.{Refusal}
-use Rattle.table.specs.declared.Checked.{Checked}
-use Rattle.table.specs.declared.Checked.TheVariants.{Sound, Refused}
 use Rattle.table.proofs.Answers.{never_accepted}
 use Rattle.arguments.specs.Written.{Name, Argument, node_in, kind_in, kind_at, argument, argument_of, arguments_in}
 use Rattle.soundness.specs.KindNumbers.{kind_positional, kind_named, kind_args_arg}
@@ -67,10 +64,10 @@ module _ (ns : List ℕ) (i : ℕ) (t : List ℕ) where
   unfolding arguments_in
   list_end h = rw (forest_none i t h) refl
 
-  pub list_on : {e : ℕ} → 24 ≤ length t → e ≡ span_of t → arguments_in ns (forest i t) ≡ argument_of ns (node_of i t)
-      ∷ arguments_in ns (forest (i + e / 24) (take (length t - e) (drop e t)))
+  pub list_on : {next : ℕ} {after : List ℕ} → 24 ≤ length t → next ≡ i + span_of t / 24 → after ≡ rest_of t
+      → arguments_in ns (forest i t) ≡ argument_of ns (node_of i t) ∷ arguments_in ns (forest next after)
   unfolding arguments_in
-  list_on {e} big e-is = rw (forest_tree i t big, rest_part e t e-is, e-is) refl
+  list_on big next-is after-is = rw (forest_tree i t big, next-is, after-is) refl
 
   -- the kind of its argument; the tests do not read its index
   kind_in_lem : kind_in (argument_of ns (node_of i t)) ≡ kind_at (node_of 0 t).kind
@@ -136,22 +133,22 @@ list_entries ns x (node r ks then ts) zero = refl
 list_entries ns x (node r ks then ts) (suc n) = rw (has_entry ns x r, node_in_lem ns r, list_entries ns x ts n) refl
 
 -- what is found behind the callee is an earlier argument
-module _ (ns x args : List ℕ) (first n : ℕ) (within : Within first args) {f : Found}
+module _ (ns x args : List ℕ) (first n : ℕ) (within : Within first args) {f : Option ℕ}
     (f-is : f ≡ first_named Arguments ns x (take n (roots (forest 0 args)))) where
   found_same : counted_from first f ≡ first_same x (take n (arguments_in ns (forest first args)))
   found_same = rw f-is (sym (list_entries ns x (forest first args) n
       ∙ rw add-zero at (first_shifted Arguments ns x first 0 args n)))
 
-  earlier_small : {i : ℕ} → f ≡ At i → first + i < 4294967296
+  earlier_small : {i : ℕ} → f ≡ Some i → first + i < 4294967296
   earlier_small h = omega (arith, first_within Arguments ns x 0 args n _ (sym f-is ∙ h))
 
-  pub earlier_room : {i : ℕ} → f ≡ At i → first + i < 2 ^ 64
+  pub earlier_room : {i : ℕ} → f ≡ Some i → first + i < 2 ^ 64
   earlier_room h = omega (arith, earlier_small h)
 
-  pub earlier_at : {i : ℕ} → f ≡ At i → Earlier x (take n (arguments_in ns (forest first args))) (At (first + i))
+  pub earlier_at : {i : ℕ} → f ≡ Some i → Earlier x (take n (arguments_in ns (forest first args))) (Some (first + i))
   earlier_at h = record { says = rw h at found_same; small = earlier_small h }
 
-  pub earlier_none : f ≡ Nothing → Earlier x (take n (arguments_in ns (forest first args))) Nothing
+  pub earlier_none : f ≡ None → Earlier x (take n (arguments_in ns (forest first args))) None
   earlier_none h = record { says = rw h at found_same; small = tt }
 
 -- the search for an earlier name goes by `has_name`
@@ -162,7 +159,7 @@ searches = record { node = λ p. (node_in p).at; none = λ x. refl; first = λ x
 -- the marks know one argument more: a named one is noted; a name that they do not show is new
 module _ (ns : List ℕ) {marks : List ℕ} {before : List Argument} (known : Known first_same marks before) (left : List ℕ)
     {k : ℕ} (k_is : k ≡ (node_of 0 left).kind) where
-  pub meets_none : (k ≡ kind_named → ⊥) → Meets ns before left marks Nothing
+  pub meets_none : (k ≡ kind_named → ⊥) → Meets ns before left marks None
   meets_none d = record {
     says = λ i. repeats_none ns before left k_is d ∙ repeats_anywhere ns i left before;
     small = tt;
@@ -172,7 +169,7 @@ module _ (ns : List ℕ) {marks : List ℕ} {before : List Argument} (known : Kn
   module _ (h : k ≡ kind_named) {x : Name} (x-is : x ≡ name_of ns (node_of 0 left)) {m : List ℕ}
       (m_is : m ≡ noted marks x)
     where
-      pub meets_searched : {r : Found} → Earlier x before r → Meets ns before left m r
+      pub meets_searched : {r : Option ℕ} → Earlier x before r → Meets ns before left m r
       meets_searched r-is = record {
         says = λ i. repeats_named ns before left k_is h x-is r-is.says ∙ repeats_anywhere ns i left before;
         small = r-is.small;
@@ -180,7 +177,7 @@ module _ (ns : List ℕ) {marks : List ℕ} {before : List Argument} (known : Kn
             (λ y. name_tested ns y left k_is h x-is refl ∙ has_anywhere ns i left y));
       }
 
-      pub meets_new : {t : Bool} → t ≡ may_stand marks x → t ≡ false → Meets ns before left m Nothing
+      pub meets_new : {t : Bool} → t ≡ may_stand marks x → t ≡ false → Meets ns before left m None
       meets_new t-is new = meets_searched (record { says = known_new known t-is new; small = tt })
 
 -- The walk: n arguments are read, and the node at comes next
@@ -218,15 +215,15 @@ test_small true n = tt
 test_small false n = tt
 
 -- the check of an argument carries no more than what was found
-check_small : (s : ArgsStage) (f : Found) (k : Kind) → SmallFound f → SmallCheck (rule s f k)
+check_small : (s : ArgsStage) (f : Option ℕ) (k : Kind) → SmallFound f → SmallCheck (rule s f k)
 check_small s f Positional h = test_small (past_positional s) _
 check_small s f Named h = go (past_named s) f h
   where
-    go : (b : Bool) (f : Found) → SmallFound f
+    go : (b : Bool) (f : Option ℕ) → SmallFound f
         → SmallCheck (if' b (λ _. Broken named_after_star) (λ _. new_name f))
     go true f h = tt
-    go false (At i) h = h
-    go false Nothing h = tt
+    go false (Some i) h = h
+    go false None h = tt
 check_small s f Args h = test_small (past_named s) _
 check_small s f KwArgs h = test_small (in_kwargs s) _
 
@@ -258,7 +255,7 @@ module _ {ns args : List ℕ} {first : ℕ} {marks₀ marks : List ℕ} {w : Wal
   pub walk_small : (w.counts.num_pos < 4294967295) × (w.counts.num_named < 4294967295)
   walk_small = omega (arith, k.fits, k.many, k.from, k.room, order_total k.walked, kinds_long k.before)
 
-  module _ (big : 24 ≤ length left) {m : List ℕ} {f : Found}
+  module _ (big : 24 ≤ length left) {m : List ℕ} {f : Option ℕ}
       (met : Meets ns (take n (arguments_in ns (forest first args))) left m f) {q : Kind}
       (q-is : q ≡ kind_at (node_of 0 left).kind) {c : Check} (c-is : c ≡ rule w.stage f q) where
     pub walk_carried : SmallCheck c
@@ -268,11 +265,13 @@ module _ {ns args : List ℕ} {first : ℕ} {marks₀ marks : List ℕ} {w : Wal
     unfolding check
     check_here = sym (c-is ∙ rw (met.says at, q-is, read, ← (kind_in_lem ns at left)) refl)
 
-    pub walk_refused : {j : Checked} {why : Refusal} → checked j ≡ check_answer c (node_of at left) → j ≡ Refused why
+    pub walk_refused : {j : Result (Unit {0}) Refusal} {why : Refusal} → checked j ≡ check_answer c (node_of at left)
+        → j ≡ Err why
         → refusal why ≡ outcome_answer (unpack (arguments_in ns (forest first args)))
     unfolding run
     walk_refused {j} {why} j-is h =
-        rw (← k.rest, list_on ns at left big refl, check_here, node_in_lem ns (node_of at left)) (go c _ (rw h at j-is))
+        rw (← k.rest, list_on ns at left big refl refl, check_here, node_in_lem ns (node_of at left))
+        (go c _ (rw h at j-is))
       where
         go : (c : Check) (next : Unit {0} → Outcome) → refusal why ≡ check_answer c (node_of at left)
             → refusal why ≡ outcome_answer (unless_broken c (node_of at left) next)
@@ -280,13 +279,14 @@ module _ {ns args : List ℕ} {first : ℕ} {marks₀ marks : List ℕ} {w : Wal
         go (Broken m) next e = e
         go (Repeated i) next e = e
 
-    pub walk_on : length m ≡ length marks → {j : Checked} {v : Walk} {e : ℕ}
-        → checked j ≡ check_answer c (node_of at left) → j ≡ Sound → v ≡ advance w n q → e ≡ span_of left
-        → Walking ns args first marks₀ m v (take (length left - e) (drop e left)) (at + e / 24) (n + 1)
-    walk_on same-long {j} {v} {e} j-is h v-is e-is =
+    pub walk_on : length m ≡ length marks → {j : Result (Unit {0}) Refusal} {v : Walk} {next : ℕ} {after : List ℕ}
+        → checked j ≡ check_answer c (node_of at left) → j ≡ Ok tt → v ≡ advance w n q → next ≡ at + span_of left / 24
+        → after ≡ rest_of left → Walking ns args first marks₀ m v after next (n + 1)
+    walk_on same-long {j} {v} {next} {after} j-is h v-is next-is after-is =
         let p : Argument = argument_of ns (node_of at left) in
-        let ps : List Argument = arguments_in ns (forest (at + e / 24) (take (length left - e) (drop e left))) in
-        let here : arguments_in ns (forest at left) ≡ p ∷ ps = list_on ns at left big e-is in
+        let ps : List Argument = arguments_in ns (forest next after) in
+        let here : arguments_in ns (forest at left) ≡ p ∷ ps = list_on ns at left big next-is after-is in
+        let less = length_rest left in
         let fine : check k.before w.stage p ≡ Fine = check_here ∙ fine_told c (node_of at left) (rw h at j-is) in
         let v-is' : v ≡ advance w (length k.before) (kind_in p) = v-is
         ∙ rw (k.many, kind_in_lem ns at left, q-is) refl in
@@ -295,8 +295,8 @@ module _ {ns args : List ℕ} {first : ℕ} {marks₀ marks : List ℕ} {w : Wal
           many = simp length-append (omega (arith, k.many));
           all = append_snoc k.before p ps ∙ rw (← here) k.all;
           fits = k.fits;
-          room = simp (length-take, length-drop) (omega (arith, k.room));
-          from = omega (arith, k.from);
+          room = omega (arith, k.room, next-is, ap length after-is, less);
+          from = omega (arith, big, k.from, next-is);
           known = rw read at (met.known at);
           long = same-long ∙ k.long;
           walked = rw v-is' (walked_more k.before w p ps fine k.walked);

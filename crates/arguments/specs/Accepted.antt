@@ -1,10 +1,8 @@
 -- What an accepted list of arguments is, defined by itself: positional, then named, then at most one star, then at most
 -- one `**`, names distinct.
 -- These are definitions.
-use Rattle.std.specs.Prelude.{◌≡◌, List, [], ◌∷◌, ◌++◌, ℕ, ◌+◌, replicate}
+use Rattle.std.specs.Prelude.{◌≡◌, List, [], ◌∷◌, ◌++◌, ℕ, ◌+◌, replicate, None, Option, Some}
 use Rattle.forest.specs.Names.{Distinct}
-use Rattle.table.specs.declared.Place.{Place}
-use Rattle.table.specs.declared.Place.TheVariants.{At, Nothing}
 use Rattle.arguments.specs.Written.{Name, Argument, positional, named, args, kwargs, kind_in}
 use Rattle.arguments.specs.Call.{Outcome, unpacked, refused_with, repeated_name, internal_error, given, bit}
 use Rattle.arguments.specs.declared.Kind.{Kind}
@@ -17,9 +15,9 @@ kinds_of [] = []
 kinds_of (p ∷ ps) = kind_in p ∷ kinds_of ps
 
 -- one of a kind where there is a place
-abbrev pub one : Place → Kind → List Kind
-one (At i) k = k ∷ []
-one Nothing k = []
+abbrev pub one : Option ℕ → Kind → List Kind
+one (Some i) k = k ∷ []
+one None k = []
 
 -- the positional ones, then the named ones, then the star, then the `**`, in the numbers that c has
 abbrev pub in_order : CallArgs → List Kind
@@ -27,9 +25,9 @@ in_order a = replicate a.num_pos Positional
     ++ (replicate a.num_named Named ++ (one a.star Args ++ one a.star_star KwArgs))
 
 -- a place, if there is one, is the n-th
-abbrev pub Placed : Place → ℕ → Type 0
-Placed (At i) n = i ≡ n
-Placed Nothing n = Unit {0}
+abbrev pub Placed : Option ℕ → ℕ → Type 0
+Placed (Some i) n = i ≡ n
+Placed None n = Unit {0}
 
 -- the names of a list's named arguments
 abbrev pub names_of : List Argument → List Name

@@ -1,15 +1,11 @@
 -- CallArgsUnpack::unpack of src/syntax/call.rs, with all its outcomes. These are definitions.
 -- Copyright 2018 The Starlark in Rust Authors. Copyright (c) Facebook, Inc. and its affiliates.
 -- Licensed under Apache-2.0; changed.
-use Rattle.std.specs.Prelude.{Bool, true, false, List, [], ◌∷◌, ◌++◌, ℕ, ◌+◌, length, eqb}
+use Rattle.std.specs.Prelude.{Bool, true, false, List, [], ◌∷◌, ◌++◌, ℕ, ◌+◌, length, eqb, None, Option, Some}
 use Rattle.fields.specs.Choice.{if'}
 use Rattle.forest.specs.Forest.{Node}
 use Rattle.forest.specs.Names.{same}
-use Rattle.forest.specs.declared.Found.{Found}
-use Rattle.forest.specs.declared.Found.TheVariants.{At, Nothing}
 use Rattle.table.specs.Numbers.{positional_after_non_positional, named_after_star, second_star, second_kwargs}
-use Rattle.table.specs.declared.Place.{Place}
-use Rattle.table.specs.declared.Place.TheVariants.{At as AtPlace, Nothing as NoPlace}
 use Rattle.arguments.specs.Written.{Name, Argument, positional, named, args, kwargs, node_in, kind_in}
 use Rattle.arguments.specs.declared.Kind.{Kind}
 use Rattle.arguments.specs.declared.Kind.TheVariants.{Positional, Named, Args, KwArgs}
@@ -47,26 +43,26 @@ has_name x (named r n) = same n x
 has_name x (args r) = false
 has_name x (kwargs r) = false
 
-unfoldable pub first_same : Name → List Argument → Found
-first_same x [] = Nothing
-first_same x (p ∷ ps) = if' (has_name x p) (λ _. At (node_in p).at) (λ _. first_same x ps)
+unfoldable pub first_same : Name → List Argument → Option ℕ
+first_same x [] = None
+first_same x (p ∷ ps) = if' (has_name x p) (λ _. Some (node_in p).at) (λ _. first_same x ps)
 
 -- the first earlier named argument whose name this one repeats; those of other kinds have none
-unfoldable pub repeats : List Argument → Argument → Found
-repeats before (positional r) = Nothing
+unfoldable pub repeats : List Argument → Argument → Option ℕ
+repeats before (positional r) = None
 repeats before (named r n) = first_same n before
-repeats before (args r) = Nothing
-repeats before (kwargs r) = Nothing
+repeats before (args r) = None
+repeats before (kwargs r) = None
 
 -- the rules of the kinds: 20; 21, then 22; 23; 24
 abbrev pub positional_rule : ArgsStage → Check
 positional_rule stage = if' (past_positional stage) (λ _. Broken positional_after_non_positional) (λ _. Fine)
 
-abbrev pub new_name : Found → Check
-new_name (At i) = Repeated i
-new_name Nothing = Fine
+abbrev pub new_name : Option ℕ → Check
+new_name (Some i) = Repeated i
+new_name None = Fine
 
-abbrev pub named_rule : ArgsStage → Found → Check
+abbrev pub named_rule : ArgsStage → Option ℕ → Check
 named_rule stage found = if' (past_named stage) (λ _. Broken named_after_star) (λ _. new_name found)
 
 abbrev pub args_rule : ArgsStage → Check
@@ -75,7 +71,7 @@ args_rule stage = if' (past_named stage) (λ _. Broken second_star) (λ _. Fine)
 abbrev pub kwargs_rule : ArgsStage → Check
 kwargs_rule stage = if' (in_kwargs stage) (λ _. Broken second_kwargs) (λ _. Fine)
 
-abbrev pub rule : ArgsStage → Found → Kind → Check
+abbrev pub rule : ArgsStage → Option ℕ → Kind → Check
 rule stage found Positional = positional_rule stage
 rule stage found Named = named_rule stage found
 rule stage found Args = args_rule stage
@@ -91,22 +87,22 @@ next_stage stage Named = AtNamed
 next_stage stage Args = AtArgs
 next_stage stage KwArgs = AtKwargs
 
-abbrev pub counts : ℕ → ℕ → Place → Place → CallArgs
+abbrev pub counts : ℕ → ℕ → Option ℕ → Option ℕ → CallArgs
 counts p n a k = record { num_pos = p; num_named = n; star = a; star_star = k }
 
 abbrev pub count : CallArgs → ℕ → Kind → CallArgs
 count c i Positional = counts (c.num_pos + 1) c.num_named c.star c.star_star
 count c i Named = counts c.num_pos (c.num_named + 1) c.star c.star_star
-count c i Args = counts c.num_pos c.num_named (AtPlace i) c.star_star
-count c i KwArgs = counts c.num_pos c.num_named c.star (AtPlace i)
+count c i Args = counts c.num_pos c.num_named (Some i) c.star_star
+count c i KwArgs = counts c.num_pos c.num_named c.star (Some i)
 
 unfoldable pub advance : Walk → ℕ → Kind → Walk
 advance w i k = record { stage = next_stage w.stage k; counts = count w.counts i k }
 
 -- is_some()
-abbrev pub given : Place → Bool
-given (AtPlace i) = true
-given NoPlace = false
+abbrev pub given : Option ℕ → Bool
+given (Some i) = true
+given None = false
 
 -- star.is_some() at a star, star_star.is_some() at a `**`
 abbrev pub taken : CallArgs → Kind → Bool
@@ -146,7 +142,7 @@ run before w (p ∷ ps) =
 
 -- CallArgsUnpack::unpack
 abbrev pub start : Walk
-start = record { stage = AtPositional; counts = counts 0 0 NoPlace NoPlace }
+start = record { stage = AtPositional; counts = counts 0 0 None None }
 
 unfoldable pub unpack : List Argument → Outcome
 unpack l = run [] start l

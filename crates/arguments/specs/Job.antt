@@ -1,11 +1,10 @@
 -- The call job: its answer for every input. These are definitions.
-use Rattle.std.specs.Prelude.{List, [], ◌∷◌, ◌++◌, ℕ, ◌+◌, min}
+use Rattle.std.specs.Prelude.{List, [], ◌∷◌, ◌++◌, ℕ, ◌+◌, min, Err, None, Ok, Option, Result, Some}
+use Rattle.table.specs.declared.Refusal.{Refusal}
 use Rattle.forest.specs.Forest.{Node, Tree}
 use Rattle.table.specs.Numbers.{repeated_named}
 use Rattle.table.specs.Answer.{Answer, accepted, refused, span_values, refused_at, refusal}
 use Rattle.table.specs.Check.{on_node}
-use Rattle.table.specs.declared.Place.{Place}
-use Rattle.table.specs.declared.Place.TheVariants.{At, Nothing}
 use Rattle.table.specs.declared.Span.{Span}
 use Rattle.table.specs.declared.Wanted.TheVariants.{Call}
 use Rattle.arguments.specs.Written.{arguments_of}
@@ -13,13 +12,11 @@ use Rattle.arguments.specs.Call.{Outcome, unpacked, refused_with, repeated_name,
 use Rattle.arguments.specs.declared.Check.{Check}
 use Rattle.arguments.specs.declared.Check.TheVariants.{Fine, Broken, Repeated}
 use Rattle.arguments.specs.declared.CallArgs.{CallArgs}
-use Rattle.arguments.specs.declared.Called.{Called}
-use Rattle.arguments.specs.declared.Called.TheVariants.{Accepted, Refused}
 
 -- a place, if there is one
-abbrev pub place_values : Place → List ℕ
-place_values (At i) = 1 ∷ i ∷ []
-place_values Nothing = 0 ∷ 0 ∷ []
+abbrev pub place_values : Option ℕ → List ℕ
+place_values (Some i) = 1 ∷ i ∷ []
+place_values None = 0 ∷ 0 ∷ []
 
 -- how many positional and named, and the places of star and `**`
 abbrev pub call_values : CallArgs → List ℕ
@@ -59,6 +56,6 @@ abbrev pub call_of : List ℕ → List ℕ → ℕ → Answer
 call_of t names i = on_node Call (call_answer names) t names i
 
 -- what the answer of code means
-abbrev pub called : Called → Answer
-called (Accepted a) = accepted (call_values a)
-called (Refused r) = refusal r
+abbrev pub called : Result CallArgs Refusal → Answer
+called (Ok a) = accepted (call_values a)
+called (Err r) = refusal r

@@ -18,9 +18,9 @@ ghost use Rattle.arguments.specs.Call.{next_stage, count as count_of, advance as
 ghost use Rattle.arguments.specs.Reading.{SmallCheck, Earlier, Meets};
 ghost use Rattle.arguments.specs.Job.{name_stop, name_span, check_answer, outcome_answer, call_answer, called, call_of};
 
-use forest::{Found, RECORD, marks};
+use forest::{Nodes, RECORD, marks};
 use soundness::kinds;
-use table::{Checked, Entries, Place, Refusal, Span, Wanted, named, numbers};
+use table::{Entries, Refusal, Span, Wanted, named, numbers};
 
 // The stage of unpack: how far it is in the arguments, in this order.
 #[derive(Clone, Copy)]
@@ -45,8 +45,8 @@ pub enum Kind {
 pub struct CallArgs {
     pub num_pos: u32,
     pub num_named: u32,
-    pub star: Place,
-    pub star_star: Place,
+    pub star: Option<u32>,
+    pub star_star: Option<u32>,
 }
 
 // All that unpack keeps from one argument to the next.
@@ -65,42 +65,32 @@ pub enum Check {
     Repeated(usize),
 }
 
-// The answer of the call job.
-#[derive(Clone, Copy)]
-pub enum Called {
-    Accepted(CallArgs),
-    Refused(Refusal),
-}
-
 // The call job: 1 to 4, 6, then 20 to 24; or the arguments in numbers.
-pub fn call(table: &[u8], names: &[u8], node: usize) -> Called
+pub fn call(table: &[u8], names: &[u8], node: usize) -> Result<CallArgs, Refusal>
     ensures { called result ≡ call_of table.now names.now node }
 {
-    let entered = table::enter(table, names, node, Wanted::Call);
-    if let Checked::Refused(why) = entered {
-        return Called::Refused(why);
-    }
+    table::enter(table, names, node, Wanted::Call)?;
     arguments(table::stretch(table, node), names, node)
 }
 
 // The first call of a stretch, for callers that have checked the table: 20 to 24, or the arguments in numbers. Its
 // first record has the index `node`. Takes any bytes; a stretch that cannot be a part of a table is not read.
-pub fn judge(names: &[u8], t: &[u8], node: u32) -> Called
+pub fn judge(names: &[u8], t: &[u8], node: u32) -> Result<CallArgs, Refusal>
     ensures { called result ≡ call_answer names.now (tree_of node (headed_of node t.now)) }
 {
     if !table::is_headed(t, node) {
-        return Called::Accepted(CallArgs {
+        return Ok(CallArgs {
             num_pos: 0,
             num_named: 0,
-            star: Place::Nothing,
-            star_star: Place::Nothing,
+            star: None,
+            star_star: None,
         });
     }
     arguments(t, names, node as usize)
 }
 
 // The arguments of the first call of a stretch: what follows its callee.
-fn arguments(t: &[u8], names: &[u8], node: usize) -> Called
+fn arguments(t: &[u8], names: &[u8], node: usize) -> Result<CallArgs, Refusal>
     requires { Headed node t.now }
     ensures { called result ≡ call_answer names.now (tree_of node t.now) }
 {
@@ -112,7 +102,7 @@ fn arguments(t: &[u8], names: &[u8], node: usize) -> Called
 
 // CallArgsUnpack::unpack of a list of arguments, the first of which is the node `first`. The number of marks depends
 // on the length of the list.
-fn unpack(args: &[u8], names: &[u8], first: usize) -> Called
+fn unpack(args: &[u8], names: &[u8], first: usize) -> Result<CallArgs, Refusal>
     requires { Within first args.now }
     ensures { called result ≡
         outcome_answer (unpack_of (arguments_in names.now (forest first args.now))) }
@@ -128,7 +118,7 @@ fn unpack(args: &[u8], names: &[u8], first: usize) -> Called
 }
 
 // The same with MANY marks, and with SOME.
-fn with_many(args: &[u8], names: &[u8], first: usize) -> Called
+fn with_many(args: &[u8], names: &[u8], first: usize) -> Result<CallArgs, Refusal>
     requires { Within first args.now }
     ensures { called result ≡
         outcome_answer (unpack_of (arguments_in names.now (forest first args.now))) }
@@ -137,7 +127,7 @@ fn with_many(args: &[u8], names: &[u8], first: usize) -> Called
     in_turn(args, names, first, &mut noted)
 }
 
-fn with_some(args: &[u8], names: &[u8], first: usize) -> Called
+fn with_some(args: &[u8], names: &[u8], first: usize) -> Result<CallArgs, Refusal>
     requires { Within first args.now }
     ensures { called result ≡
         outcome_answer (unpack_of (arguments_in names.now (forest first args.now))) }
@@ -147,7 +137,7 @@ fn with_some(args: &[u8], names: &[u8], first: usize) -> Called
 }
 
 // The arguments in turn. Notes their names in the marks.
-fn in_turn(args: &[u8], names: &[u8], first: usize, noted: &mut [u8]) -> Called
+fn in_turn(args: &[u8], names: &[u8], first: usize, noted: &mut [u8]) -> Result<CallArgs, Refusal>
     requires { Within first args.now }
     ensures { called result ≡
         outcome_answer (unpack_of (arguments_in names.now (forest first args.now))) }
@@ -157,47 +147,37 @@ fn in_turn(args: &[u8], names: &[u8], first: usize, noted: &mut [u8]) -> Called
         counts: CallArgs {
             num_pos: 0,
             num_named: 0,
-            star: Place::Nothing,
-            star_star: Place::Nothing,
+            star: None,
+            star_star: None,
         },
     };
-    let mut left = args;
-    let mut at = first;
-    let mut n = 0;
-    while RECORD <= left.len() {
+    for (n, (at, left)) in (Nodes {
+        at: first,
+        left: args,
+    })
+    .enumerate()
+    {
         let found = repeated(names, args, first, n, left, noted);
         let stage = w.stage;
         let kind = kind_of(left);
-        let judged = refused(check_argument(stage, found, kind), at as u32, left);
-        if let Checked::Refused(why) = judged {
-            return Called::Refused(why);
-        }
+        refused(check_argument(stage, found, kind), at as u32, left)?;
         w = advance(w, n as u32, kind);
-        n += 1;
-        let e = forest::span(left);
-        at += e / RECORD;
-        left = &left[e..];
     }
     let counts = w.counts;
-    Called::Accepted(counts)
+    Ok(counts)
 }
 
 // A broken argument is refused with its span; a repeated name with the span of the name and the earlier argument.
-fn refused(c: Check, at: u32, t: &[u8]) -> Checked
+fn refused(c: Check, at: u32, t: &[u8]) -> Result<(), Refusal>
     requires { SmallCheck c }
     ensures { checked result ≡ check_answer c (node_of at t.now) }
 {
     match c {
-        Check::Fine => Checked::Sound,
-        Check::Broken(number) => Checked::Refused(table::refused_at(number, at, t)),
+        Check::Fine => Ok(()),
+        Check::Broken(number) => Err(table::refused_at(number, at, t)),
         Check::Repeated(i) => {
             let earlier = i as u32;
-            Checked::Refused(table::refused_in(
-                numbers::REPEATED_NAMED,
-                at,
-                name_span(t),
-                Place::At(earlier),
-            ))
+            Err(table::refused_in(numbers::REPEATED_NAMED, at, name_span(t), Some(earlier)))
         }
     }
 }
@@ -274,15 +254,15 @@ fn in_kwargs(stage: ArgsStage) -> bool
 }
 
 // The node of the first of n arguments that is named and has this name; `first` is the node of the first of them.
-fn earlier(names: &[u8], name: &[u8], args: &[u8], first: usize, n: usize) -> Found
+fn earlier(names: &[u8], name: &[u8], args: &[u8], first: usize, n: usize) -> Option<usize>
     requires { Within first args.now × (n ≤ length (arguments_in names.now (forest first args.now))) }
     ensures { Earlier name.now
         (take n (arguments_in names.now (forest first args.now))) result }
 {
     let found = named::first_named(Entries::Arguments, names, name, args, n);
     match found {
-        Found::At(i) => Found::At(first + i),
-        Found::Nothing => Found::Nothing,
+        Some(i) => Some(first + i),
+        None => None,
     }
 }
 
@@ -295,7 +275,7 @@ fn repeated(
     n: usize,
     left: &[u8],
     noted: &mut [u8],
-) -> Found
+) -> Option<usize>
     requires { Within first args.now ×
         (n ≤ length (arguments_in names.now (forest first args.now))) ×
         Known first_same noted.old (take n (arguments_in names.now (forest first args.now))) }
@@ -304,11 +284,11 @@ fn repeated(
         noted.new result }
 {
     if forest::kind(left) != kinds::NAMED {
-        return Found::Nothing;
+        return None;
     }
     let name = forest::names::name(names, left);
     if !marks::note(noted, name) {
-        return Found::Nothing;
+        return None;
     }
     earlier(names, name, args, first, n)
 }
@@ -324,17 +304,17 @@ fn positional_rule(stage: ArgsStage) -> Check
 }
 
 // 22 (a repeated name), from the result of the search among earlier names.
-fn new_name(found: Found) -> Check
+fn new_name(found: Option<usize>) -> Check
     ensures { result ≡ new_name found }
 {
     match found {
-        Found::At(i) => Check::Repeated(i),
-        Found::Nothing => Check::Fine,
+        Some(i) => Check::Repeated(i),
+        None => Check::Fine,
     }
 }
 
 // 21 (named after a star or `**`), then 22.
-fn named_rule(stage: ArgsStage, found: Found) -> Check
+fn named_rule(stage: ArgsStage, found: Option<usize>) -> Check
     ensures { result ≡ named_rule stage found }
 {
     if past_named(stage) {
@@ -364,7 +344,7 @@ fn kwargs_rule(stage: ArgsStage) -> Check
 }
 
 // The rule of an argument's kind, from the result of the search among earlier names.
-fn check_argument(stage: ArgsStage, found: Found, kind: Kind) -> Check
+fn check_argument(stage: ArgsStage, found: Option<usize>, kind: Kind) -> Check
     ensures { result ≡ rule_of stage found kind }
 {
     match kind {
@@ -411,14 +391,14 @@ fn count(c: CallArgs, place: u32, kind: Kind) -> CallArgs
         Kind::Args => CallArgs {
             num_pos,
             num_named,
-            star: Place::At(place),
+            star: Some(place),
             star_star,
         },
         Kind::KwArgs => CallArgs {
             num_pos,
             num_named,
             star,
-            star_star: Place::At(place),
+            star_star: Some(place),
         },
     }
 }

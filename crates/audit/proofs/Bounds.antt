@@ -23,7 +23,7 @@ use Rattle.deflist.specs.Told.{told}
 use Rattle.arguments.specs.Job.{call_answer}
 use Rattle.targets.specs.Targets.{counted, check_assignment}
 use Rattle.types.specs.Types.{dialect_check_type}
-use Rattle.errors.specs.declared.Err.{Err}
+use Rattle.errors.specs.declared.Finding.{Finding}
 use Rattle.validate.proofs.Bounds.{error_few}
 use Rattle.audit.specs.declared.Role.{Role}
 use Rattle.audit.specs.declared.Role.TheVariants.{AsTarget, AsType, Plain}
@@ -36,7 +36,7 @@ answer_few : (a : Answer) → length (answer_errors a) ≤ 1
 answer_few (accepted vs) = omega arith
 answer_few (refused n vs) = omega arith
 
-choice_few : (b : Bool) (x y : Unit {0} → List Err) → length (x tt) ≤ 1 → length (y tt) ≤ 1 → length (if' b x y) ≤ 1
+choice_few : (b : Bool) (x y : Unit {0} → List Finding) → length (x tt) ≤ 1 → length (y tt) ≤ 1 → length (if' b x y) ≤ 1
 choice_few true x y p q = p
 choice_few false x y p q = q
 

@@ -3,19 +3,19 @@
 -- only the type job depends on the edition, and types' `type_lifted` says that its answers are the same except 44. A
 -- list without 44 has no part with 44, so the lists are equal part by part (`parts_same`); the induction is on the list
 -- of trees (`refusals_same`). Cite `audit_same` and `job_same`. Assumes nothing.
+use Rattle.std.specs.Prelude.{Some}
 use mathlib.Core.Path.{◌≡◌, refl, ap}
 use mathlib.Core.List.{List, [], ◌∷◌, ◌++◌}
 use Prim.Native.Nat.{ℕ}
 use lib.ListN.{length, take}
 use Rattle.dialect.specs.declared.Dialect.{Dialect}
 use Rattle.dialect.specs.declared.Edition.TheVariants.{One, Two}
-use Rattle.dialect.specs.declared.EditionRead.TheVariants.{Known}
 use Rattle.dialect.specs.Editions.{edition_of}
 use Rattle.forest.specs.Forest.{Tree, forest}
 use Rattle.table.specs.Numbers.{dot_type_ban}
 use Rattle.table.specs.Answer.{Answer, accepted, refused}
 use Rattle.table.specs.Check.{most_bytes, Handing, in_dialect, turned_away, given_of, ruling, rules_of, in_rules}
-use Rattle.errors.specs.declared.Err.{Err}
+use Rattle.errors.specs.declared.Finding.{Finding}
 use Rattle.errors.specs.declared.Listing.TheVariants.{Own, Audit}
 use Rattle.errors.specs.Errors.{kept, stored}
 use Rattle.types.specs.Types.{dialect_check_type}
@@ -29,17 +29,17 @@ use Rattle.audit.specs.Refusals.{answer_errors, kind_errors, role_errors, refuse
 use Rattle.audit.specs.Job.{audit_errors, audit_in, all_errors, audit_of, audit_after}
 
 -- a list of errors without 44
-abbrev pub NoBans : List Err → Type 0
+abbrev pub NoBans : List Finding → Type 0
 NoBans [] = Unit {0}
 NoBans (e ∷ es) = (e.number ≡ dot_type_ban → ⊥) × NoBans es
 
 -- both parts of a list without 44 are without 44
-bans_apart : (es fs : List Err) → NoBans (es ++ fs) → NoBans es × NoBans fs
+bans_apart : (es fs : List Finding) → NoBans (es ++ fs) → NoBans es × NoBans fs
 bans_apart [] fs h = (tt, h)
 bans_apart (e ∷ es) fs h = let rest = bans_apart es fs h.1 in ((h.0, rest.0), rest.1)
 
 -- two lists that are the same part by part, if the list of edition 1 has no 44
-parts_same : (es : List Err) {fs es₂ fs₂ : List Err} → (NoBans es → es₂ ≡ es) → (NoBans fs → fs₂ ≡ fs)
+parts_same : (es : List Finding) {fs es₂ fs₂ : List Finding} → (NoBans es → es₂ ≡ es) → (NoBans fs → fs₂ ≡ fs)
     → NoBans (es ++ fs)
     → es₂ ++ fs₂ ≡ es ++ fs
 parts_same es {fs} first rest h =
@@ -87,8 +87,8 @@ module _ (t names bytes : List ℕ) (free : NoBans (all_errors t names bytes 1))
   unfolding all_errors rules_of edition_of
   list_same = go (given_of t names bytes) free
     where
-      go : (h : Handing) → NoBans (audit_in (ruling h (Known One)) names t)
-          → audit_in (ruling h (Known Two)) names t ≡ audit_in (ruling h (Known One)) names t
+      go : (h : Handing) → NoBans (audit_in (ruling h (Some One)) names t)
+          → audit_in (ruling h (Some Two)) names t ≡ audit_in (ruling h (Some One)) names t
       go (in_dialect d) h = audit_same d names t h
       go (turned_away n vs) h = refl
 
@@ -96,10 +96,10 @@ module _ (t names bytes : List ℕ) (free : NoBans (all_errors t names bytes 1))
   unfolding rules_of edition_of
   job_same = rw list_same (go (given_of t names bytes))
     where
-      go : (h : Handing) → in_rules (ruling h (Known Two)) (λ _ _. accepted (length (all_errors t names bytes 1) ∷ []))
-          ≡ in_rules (ruling h (Known One)) (λ _ _. accepted (length (all_errors t names bytes 1) ∷ []))
+      go : (h : Handing) → in_rules (ruling h (Some Two)) (λ _ _. accepted (length (all_errors t names bytes 1) ∷ []))
+          ≡ in_rules (ruling h (Some One)) (λ _ _. accepted (length (all_errors t names bytes 1) ∷ []))
       go (in_dialect d) = refl
       go (turned_away n vs) = refl
 
   pub words_same : (words : List ℕ) → audit_after t names bytes 2 words ≡ audit_after t names bytes 1 words
-  words_same words = ap (λ (es : List Err). stored Audit es words) list_same
+  words_same words = ap (λ (es : List Finding). stored Audit es words) list_same

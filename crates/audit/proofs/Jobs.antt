@@ -4,6 +4,7 @@
 -- `stores_both`). The module pass stores its errors in the form Own, which has the same words as the form Audit
 -- (`own_words`, by induction on the errors). The sums fit, because a table has at most 4,200 errors of the module pass
 -- (`own_few`). The proofs of audit and pass cite these laws. Assumes nothing.
+use Rattle.std.specs.Prelude.{Err, Ok, Option, Result}
 use mathlib.Core.Path.{◌≡◌, refl, sym, ◌∙◌}
 use mathlib.Core.List.{List, [], ◌∷◌}
 use Prim.Native.Nat.{ℕ, ◌+◌, ◌≤◌}
@@ -11,17 +12,14 @@ use native.Mathlib.Omega.{arith}
 use lib.ListN.{length, take, drop, length-take}
 use Rattle.dialect.specs.declared.Dialect.{Dialect}
 use Rattle.dialect.specs.declared.Edition.{Edition}
-use Rattle.dialect.specs.declared.EditionRead.{EditionRead}
 use Rattle.dialect.specs.Editions.{edition_of}
 use Rattle.forest.specs.Forest.{forest}
 use Rattle.forest.proofs.Stretch.{count_forest}
 use Rattle.table.specs.Answer.{Answer, accepted, number_of, carried, refusal}
 use Rattle.table.specs.Check.{by_rules, unruled, ruled, rules_of}
 use Rattle.table.specs.declared.Refusal.{Refusal}
-use Rattle.table.specs.declared.Ruled.{Ruled}
-use Rattle.table.specs.declared.Ruled.TheVariants.{By, Refused as Unruled}
 use Rattle.table.proofs.Ruling.{unruled_is, by_is}
-use Rattle.errors.specs.declared.Err.{Err}
+use Rattle.errors.specs.declared.Finding.{Finding}
 use Rattle.errors.specs.declared.Listing.TheVariants.{Own, Audit}
 use Rattle.errors.specs.Errors.{kept, width, stored, Stores}
 use Rattle.errors.proofs.Storing.{kept_few, free_at, after, back, stored_none, stores_both}
@@ -33,7 +31,7 @@ use Rattle.audit.specs.Refusals.{refusals}
 use Rattle.audit.specs.Job.{audit_errors, all_errors, audit_of, audit_after}
 
 -- LAW: errors in the form Own have the same words as in the form Audit
-own_words : (es : List Err) (xs : List ℕ) → stored Own es xs ≡ stored Audit es xs
+own_words : (es : List Finding) (xs : List ℕ) → stored Own es xs ≡ stored Audit es xs
 unfolding stored
 own_words [] xs = refl
 own_words (e ∷ es) xs = rw (own_words es (drop (width Audit) xs)) refl
@@ -68,20 +66,21 @@ module _ (d : Dialect) (names t : List ℕ) {m : ℕ} (m_is : m ≡ length (kept
 abbrev pub Promised : List ℕ → List ℕ → List ℕ → ℕ → List ℕ → Answer → List ℕ → Type 0
 Promised t names bytes n xs r ys = (r ≡ audit_of t names bytes n) × (ys ≡ audit_after t names bytes n xs)
 
-module _ (t names bytes : List ℕ) (n : ℕ) (xs : List ℕ) {x : EditionRead} (x-is : x ≡ edition_of n) {g : Ruled}
+module _ (t names bytes : List ℕ) (n : ℕ) (xs : List ℕ) {x : Option Edition} (x-is : x ≡ edition_of n)
+    {g : Result (Dialect × Edition) Refusal}
     (g-is : ruled g ≡ rules_of t names bytes x) where
-  pub job_refused : {why : Refusal} → g ≡ Unruled why → Promised t names bytes n xs (refusal why) xs
+  pub job_refused : {why : Refusal} → g ≡ Err why → Promised t names bytes n xs (refusal why) xs
   unfolding all_errors
   job_refused {why} h =
       let told : rules_of t names bytes (edition_of n) ≡ unruled (number_of why) (carried why) =
       rw (← x-is) (unruled_is t names bytes x g-is h) in
       (rw told refl, rw told (sym (stored_none Audit xs)))
 
-  pub job_total : {d : Dialect} {edition : Edition} {m : ℕ} {ys : List ℕ} → g ≡ By d edition
-      → m ≡ length (audit_errors d edition names t) → ys ≡ stored Audit (audit_errors d edition names t) xs
+  pub job_total : {p : Dialect × Edition} {m : ℕ} {ys : List ℕ} → g ≡ Ok p
+      → m ≡ length (audit_errors p.0 p.1 names t) → ys ≡ stored Audit (audit_errors p.0 p.1 names t) xs
       → Promised t names bytes n xs (accepted (m ∷ [])) ys
   unfolding all_errors
-  job_total {d} {edition} h total words =
-      let told : rules_of t names bytes (edition_of n) ≡ by_rules d edition =
+  job_total {p} h total words =
+      let told : rules_of t names bytes (edition_of n) ≡ by_rules p.0 p.1 =
       rw (← x-is) (by_is t names bytes x g-is h) in
       (rw (told, total) refl, rw told words)

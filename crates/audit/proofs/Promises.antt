@@ -1,6 +1,8 @@
 -- The contract of each public function leaves one answer: two answers that meet it are equal, and so are the two lists
 -- of words at exit, for every input. The contracts equate the meaning of the answer, or the answer itself, and the
 -- words with definitions; no two answers have the same meaning (`listed_injective` of validate). Assumes nothing.
+use Rattle.std.specs.Prelude.{Result, ℕ}
+use Rattle.table.specs.declared.Refusal.{Refusal}
 use mathlib.Core.Path.{◌≡◌}
 use mathlib.Core.List.{List}
 use Prim.Native.Nat.{ℕ}
@@ -11,12 +13,11 @@ use Rattle.dialect.specs.declared.Edition.{Edition}
 use Rattle.errors.specs.Errors.{stored}
 use Rattle.errors.specs.declared.Listing.TheVariants.{Audit}
 use Rattle.validate.specs.Job.{listed}
-use Rattle.validate.specs.declared.Listed.{Listed}
 use Rattle.validate.proofs.Promises.{listed_injective}
 use Rattle.audit.specs.Job.{audit_errors, audit_of, audit_after}
 
 -- of `audit`
-pub audit_one : (table names dialect : List ℕ) (edition : ℕ) (errors : List ℕ) {r s : Listed}
+pub audit_one : (table names dialect : List ℕ) (edition : ℕ) (errors : List ℕ) {r s : Result ℕ Refusal}
     {errors-r errors-s : List ℕ}
     → listed r ≡ audit_of table names dialect edition → errors-r ≡ audit_after table names dialect edition errors
     → listed s ≡ audit_of table names dialect edition → errors-s ≡ audit_after table names dialect edition errors

@@ -5,6 +5,8 @@
 -- `role_type`, `role_plain`). Each job reads the bytes as its own crate promises, and the record is part of a table,
 -- so the tree is the same (table's `headed_all`). There is no induction. Both together are `there_both`. Assumes
 -- nothing.
+use Rattle.std.specs.Prelude.{Err, Ok, Option, Result, ℕ}
+use Rattle.arguments.specs.declared.CallArgs.{CallArgs}
 use mathlib.Core.Path.{◌≡◌, refl, sym, ap, ◌∙◌}
 use mathlib.Core.Bool.{false}
 use mathlib.Core.List.{List, [], ◌++◌}
@@ -21,29 +23,18 @@ use Rattle.table.specs.Check.{wants, Headed, headed_of}
 use Rattle.table.specs.declared.Refusal.{Refusal}
 use Rattle.table.specs.declared.Refusal.TheVariants.{Bare, Placed, Spanned}
 use Rattle.table.specs.declared.Span.{Span}
-use Rattle.table.specs.declared.Place.{Place}
-use Rattle.table.specs.declared.Checked.{Checked}
-use Rattle.table.specs.declared.Checked.TheVariants.{Sound, Refused as Unsound}
 use Rattle.table.proofs.Heads.{headed_all}
 use Rattle.deflist.specs.Written.{written}
 use Rattle.deflist.specs.Limited.{limited}
 use Rattle.deflist.specs.Told.{told}
 use Rattle.deflist.specs.declared.Counts.{Counts}
 use Rattle.deflist.specs.declared.Fault.{Fault}
-use Rattle.deflist.specs.declared.Judged.{Judged}
-use Rattle.deflist.specs.declared.Judged.TheVariants.{Accepted, Refused as NoList}
 use Rattle.arguments.specs.Job.{called, call_answer}
-use Rattle.arguments.specs.declared.Called.{Called}
-use Rattle.arguments.specs.declared.Called.TheVariants.{Refused as NoCall}
 use Rattle.targets.specs.Targets.{counted, check_assignment}
 use Rattle.targets.specs.Jobs.{targeted}
-use Rattle.targets.specs.declared.Targeted.{Targeted}
-use Rattle.targets.specs.declared.Targeted.TheVariants.{Refused as NoTarget}
 use Rattle.types.specs.Types.{dialect_check_type}
 use Rattle.types.specs.Jobs.{shaped}
-use Rattle.types.specs.declared.Shaped.{Shaped}
-use Rattle.types.specs.declared.Shaped.TheVariants.{Refused as NoType}
-use Rattle.errors.specs.declared.Err.{Err}
+use Rattle.errors.specs.declared.Finding.{Finding}
 use Rattle.errors.specs.declared.Listing.TheVariants.{Audit}
 use Rattle.errors.specs.Errors.{err, only, Stores}
 use Rattle.errors.proofs.Storing.{free_at, after, back, stores_none, stores_both, stores_few}
@@ -60,11 +51,11 @@ abbrev no_span : Span
 no_span = record { begin = 0; end = 0; file = 0 }
 
 -- storing a refusal, if there is one
-module _ {c : Checked} (xs : List ℕ) where
-  pub push_none : c ≡ Sound → StoresFew Audit 1 (answer_errors (checked c)) xs 0 xs
+module _ {c : Result (Unit {0}) Refusal} (xs : List ℕ) where
+  pub push_none : c ≡ Ok tt → StoresFew Audit 1 (answer_errors (checked c)) xs 0 xs
   push_none h = record { few = omega arith; stores = rw h (stores_none xs) }
 
-  pub push_one : {why : Refusal} → c ≡ Unsound why → {e : Err} → e ≡ refused_err (number_of why) (carried why)
+  pub push_one : {why : Refusal} → c ≡ Err why → {e : Finding} → e ≡ refused_err (number_of why) (carried why)
       → {n : ℕ} {ys : List ℕ} → Stores Audit (only e) xs n ys → StoresFew Audit 1 (answer_errors (checked c)) xs n ys
   push_one h {e} e-is s = record { few = omega (arith, stores_few (only e) s); stores = rw (h, ← e-is) s }
 
@@ -76,27 +67,29 @@ module _ {why : Refusal} where
   pub error_placed : {n k : ℕ} → why ≡ Placed n k → err n k no_span ≡ refused_err (number_of why) (carried why)
   error_placed h = rw h refl
 
-  pub error_spanned : {n k : ℕ} {s : Span} {e : Place} → why ≡ Spanned n k s e
+  pub error_spanned : {n k : ℕ} {s : Span} {e : Option ℕ} → why ≡ Spanned n k s e
       → err n k s ≡ refused_err (number_of why) (carried why)
   error_spanned h = rw h refl
 
 -- the refusal in the answer of a job
 module _ {why : Refusal} where
-  pub call_refused : {a : Called} → a ≡ NoCall why → answer_errors (refusal why) ≡ answer_errors (called a)
+  pub call_refused : {a : Result CallArgs Refusal} → a ≡ Err why
+      → answer_errors (refusal why) ≡ answer_errors (called a)
   call_refused h = rw h refl
 
-  pub target_refused : {a : Targeted} → a ≡ NoTarget why → answer_errors (refusal why) ≡ answer_errors (targeted a)
+  pub target_refused : {a : Result ℕ Refusal} → a ≡ Err why → answer_errors (refusal why) ≡ answer_errors (targeted a)
   target_refused h = rw h refl
 
-  pub type_refused : {a : Shaped} → a ≡ NoType why → answer_errors (refusal why) ≡ answer_errors (shaped a)
+  pub type_refused : {a : Result (Unit {0}) Refusal} → a ≡ Err why
+      → answer_errors (refusal why) ≡ answer_errors (shaped a)
   type_refused h = rw h refl
 
 -- the error of a parameter list
-module _ {j k : Judged} (j-is : j ≡ k) where
-  pub list_none : {c : Counts} → j ≡ Accepted c → answer_errors (accepted []) ≡ unpack_error k
+module _ {j k : Result Counts Fault} (j-is : j ≡ k) where
+  pub list_none : {c : Counts} → j ≡ Ok c → answer_errors (accepted []) ≡ unpack_error k
   list_none h = rw (← j-is, h) refl
 
-  pub list_one : {f : Fault} → j ≡ NoList f → {es : List Err} → es ≡ unpack_error (NoList f) → es ≡ unpack_error k
+  pub list_one : {f : Fault} → j ≡ Err f → {es : List Finding} → es ≡ unpack_error (Err f) → es ≡ unpack_error k
   list_one h es-is = es-is ∙ rw (← j-is, h) refl
 
 -- the job of a record's kind
@@ -113,7 +106,7 @@ module _ (names : List ℕ) (i : ℕ) (t : List ℕ) {k : ℕ} (k_is : k ≡ (no
     ne_eqb k kind_assign_modify no-modify,
   ) refl
 
-  module _ {es : List Err} (list : es ≡ unpack_error (told (limited (node_of i t) (written names i t)))) where
+  module _ {es : List Finding} (list : es ≡ unpack_error (told (limited (node_of i t) (written names i t)))) where
     pub kind_def_lem : k ≡ kind_def → es ≡ kind_errors names (tree_of i t)
     unfolding kind_errors wants written
     kind_def_lem h = list ∙ rw (eq-eqb (node_of 0 t).kind kind_def (sym k_is ∙ h)) refl
@@ -125,15 +118,15 @@ module _ (names : List ℕ) (i : ℕ) (t : List ℕ) {k : ℕ} (k_is : k ≡ (no
         let other : eqb (node_of 0 t).kind kind_def ≡ false = rw is refl in
         list ∙ rw (other, eq-eqb (node_of 0 t).kind kind_lambda is) refl
 
-  pub kind_call_lem : Headed i t → k ≡ kind_call → (c : Called)
+  pub kind_call_lem : Headed i t → k ≡ kind_call → (c : Result CallArgs Refusal)
       → called c ≡ call_answer names (tree_of i (headed_of i t))
-      → {es : List Err} → es ≡ answer_errors (called c) → es ≡ kind_errors names (tree_of i t)
+      → {es : List Finding} → es ≡ answer_errors (called c) → es ≡ kind_errors names (tree_of i t)
   unfolding kind_errors wants
   kind_call_lem here h c c-is es-is =
       es-is ∙ ap answer_errors (rw (headed_all i t here) at c-is) ∙ rw (← k_is, h) refl
 
-  module _ (here : Headed i t) (c : Targeted) (c-is : targeted c ≡ check_assignment (tree_of i (headed_of i t)))
-      {es : List Err} (es-is : es ≡ answer_errors (targeted c)) where
+  module _ (here : Headed i t) (c : Result ℕ Refusal) (c-is : targeted c ≡ check_assignment (tree_of i (headed_of i t)))
+      {es : List Finding} (es-is : es ≡ answer_errors (targeted c)) where
     told_assign : es ≡ answer_errors (check_assignment (tree_of i t))
     told_assign = es-is ∙ ap answer_errors (rw (headed_all i t here) at c-is)
 
@@ -151,21 +144,21 @@ module _ (d : Dialect) (edition : Edition) (names : List ℕ) (i : ℕ) (t : Lis
   unfolding role_errors
   role_plain h = rw h refl
 
-  pub role_target : Headed i t → role ≡ AsTarget → (c : Targeted)
-      → targeted c ≡ counted 0 (tree_of i (headed_of i t)) → {es : List Err} → es ≡ answer_errors (targeted c)
+  pub role_target : Headed i t → role ≡ AsTarget → (c : Result ℕ Refusal)
+      → targeted c ≡ counted 0 (tree_of i (headed_of i t)) → {es : List Finding} → es ≡ answer_errors (targeted c)
       → es ≡ role_errors d edition names role (tree_of i t)
   unfolding role_errors
   role_target here h c c-is es-is = es-is ∙ ap answer_errors (rw (headed_all i t here) at c-is) ∙ rw h refl
 
-  pub role_type : Headed i t → role ≡ AsType → (c : Shaped)
-      → shaped c ≡ dialect_check_type edition names d.enable_types (tree_of i (headed_of i t)) → {es : List Err}
+  pub role_type : Headed i t → role ≡ AsType → (c : Result (Unit {0}) Refusal)
+      → shaped c ≡ dialect_check_type edition names d.enable_types (tree_of i (headed_of i t)) → {es : List Finding}
       → es ≡ answer_errors (shaped c) → es ≡ role_errors d edition names role (tree_of i t)
   unfolding role_errors
   role_type here h c c-is es-is = es-is ∙ ap answer_errors (rw (headed_all i t here) at c-is) ∙ rw h refl
 
 -- both jobs, in this order
 pub there_both : (d : Dialect) (edition : Edition) (names : List ℕ) (role : Role) (i : ℕ) (t : List ℕ)
-    {es fs : List Err} → es ≡ kind_errors names (tree_of i t) → fs ≡ role_errors d edition names role (tree_of i t)
+    {es fs : List Finding} → es ≡ kind_errors names (tree_of i t) → fs ≡ role_errors d edition names role (tree_of i t)
     → {xs ys zs : List ℕ} {m n at : ℕ} → Stores Audit es xs m ys → at ≡ free_at Audit m ys
     → Stores Audit fs (after at ys) n zs
     → StoresFew Audit 2 (refused_there d edition names (placed_as role (tree_of i t))) xs (m + n) (back at ys zs)

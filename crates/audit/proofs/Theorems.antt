@@ -3,6 +3,7 @@
 -- list with room for that many errors holds all of them (`list_holds_all`). A table has at most 2,100 nodes, so 42,000
 -- words are enough for every table (`list_has_room`). There is no induction here; Bounds has it. The crate `audited`
 -- says when the list is empty. Assumes nothing.
+use Rattle.std.specs.Prelude.{Ok}
 use mathlib.Core.Path.{◌≡◌, refl}
 use mathlib.Core.List.{List, [], ◌∷◌, ◌++◌}
 use Prim.Native.Nat.{ℕ, ◌*◌, ◌/◌, ◌≤◌}
@@ -22,7 +23,6 @@ use Rattle.errors.specs.declared.Listing.TheVariants.{Own, Audit}
 use Rattle.errors.specs.Errors.{kept, width, stored}
 use Rattle.errors.proofs.Storing.{all_words, stored_all, stored_none}
 use Rattle.validate.specs.Job.{listed, pass_errors}
-use Rattle.validate.specs.declared.Listed.TheVariants.{Total}
 use Rattle.validate.proofs.Theorems.{pass_few}
 use Rattle.audit.specs.declared.Roles.TheVariants.{Nowhere}
 use Rattle.audit.specs.Roles.{placed}
@@ -67,10 +67,10 @@ module _ (t names bytes : List ℕ) (n : ℕ) where
       go (unruled m ws) = omega arith
 
   -- THEOREM: the total that the job answers is at most four times the node count
-  pub total_few : (m : ℕ) → listed (Total m) ≡ audit_of t names bytes n → m ≤ 4 * (length t / 24)
+  pub total_few : (m : ℕ) → listed (Ok m) ≡ audit_of t names bytes n → m ≤ 4 * (length t / 24)
   total_few m e = go (rules_of t names bytes (edition_of n)) e
     where
-      go : (h : Ruling) → listed (Total m) ≡ in_rules h (λ _ _. accepted (length (all_errors t names bytes n) ∷ []))
+      go : (h : Ruling) → listed (Ok m) ≡ in_rules h (λ _ _. accepted (length (all_errors t names bytes n) ∷ []))
           → m ≤ 4 * (length t / 24)
       go (by_rules d edition) h = let total : m ≡ length (all_errors t names bytes n) = cc in omega (arith, errors_few)
       go (unruled k vs) h = never (cc)

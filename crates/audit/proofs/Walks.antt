@@ -20,7 +20,7 @@ use Rattle.forest.proofs.Stretch.{forest_none, forest_tree, kids_part, rest_part
 use Rattle.soundness.specs.KindNumbers.{kind_def, kind_for, kind_assign, kind_assign_modify, kind_normal, kind_args_param}
 use Rattle.soundness.specs.KindNumbers.{kind_kw_args_param}
 use Rattle.soundness.specs.Kinds.{expression, class_of}
-use Rattle.errors.specs.declared.Err.{Err}
+use Rattle.errors.specs.declared.Finding.{Finding}
 use Rattle.errors.specs.declared.Listing.TheVariants.{Audit}
 use Rattle.errors.specs.Errors.{Stores}
 use Rattle.errors.proofs.Storing.{free_at, after, back, stores_both, stores_few}
@@ -124,7 +124,7 @@ tree_short d edition names role i t q = omega (arith, stores_few _ q, tree_few d
 
 -- the invariant of the loop over siblings: of `whole`, the refusals of what is left of t come next, in the roles that
 -- are left
-pub record Auditing (d : Dialect) (edition : Edition) (names : List ℕ) (whole : List Err) (t xs₀ left : List ℕ)
+pub record Auditing (d : Dialect) (edition : Edition) (names : List ℕ) (whole : List Finding) (t xs₀ left : List ℕ)
     (place : ℕ) (roles : Roles)
     (total : ℕ) (xs : List ℕ) : Type 0 where
   pub within : 24 * place + length left ≤ 50400
@@ -157,7 +157,7 @@ module _ {d : Dialect} {edition : Edition} {names : List ℕ} where
     turns = turns_start _ xs;
   }
 
-  module _ {whole : List Err} {t xs₀ left : List ℕ} {place : ℕ} {roles : Roles} {total : ℕ} {xs : List ℕ}
+  module _ {whole : List Finding} {t xs₀ left : List ℕ} {place : ℕ} {roles : Roles} {total : ℕ} {xs : List ℕ}
       (v : Auditing d edition names whole t xs₀ left place roles total xs) where
     pub each_long : length xs ≡ length xs₀
     each_long = turns_long v.turns

@@ -6,7 +6,7 @@ use Rattle.dialect.specs.Editions.{edition_of}
 use Rattle.forest.specs.Forest.{Forest, forest}
 use Rattle.table.specs.Answer.{Answer, accepted}
 use Rattle.table.specs.Check.{most_nodes, most_bytes, Ruling, by_rules, unruled, rules_of, in_rules}
-use Rattle.errors.specs.declared.Err.{Err}
+use Rattle.errors.specs.declared.Finding.{Finding}
 use Rattle.errors.specs.declared.Listing.TheVariants.{Own, Audit}
 use Rattle.errors.specs.Errors.{kept, width, stored}
 use Rattle.validate.specs.Job.{pass_errors}
@@ -15,22 +15,22 @@ use Rattle.audit.specs.Roles.{placed}
 use Rattle.audit.specs.Refusals.{refusals}
 
 -- the refusals of the jobs, record by record; the top records have no role
-abbrev pub refusals_in : Dialect → Edition → List ℕ → Forest → List Err
+abbrev pub refusals_in : Dialect → Edition → List ℕ → Forest → List Finding
 refusals_in d edition names ts = refusals d edition names (placed Nowhere ts)
 
 -- the errors of any bytes in a dialect and an edition, without 1 to 5: those of the module pass without 10 to 19, then
 -- the refusals of the jobs, in at most as many records as a table has
-unfoldable pub audit_errors : Dialect → Edition → List ℕ → List ℕ → List Err
+unfoldable pub audit_errors : Dialect → Edition → List ℕ → List ℕ → List Finding
 audit_errors d edition names t = kept Own (pass_errors d names t) ++ refusals_in d edition names
     (forest 0 (take most_bytes t))
 
 -- the errors in the given dialect and edition; a job that 1 to 5 refuse has none
-abbrev pub audit_in : Ruling → List ℕ → List ℕ → List Err
+abbrev pub audit_in : Ruling → List ℕ → List ℕ → List Finding
 audit_in (by_rules d edition) names t = audit_errors d edition names t
 audit_in (unruled n vs) names t = []
 
 -- the same for the number n of an edition
-unfoldable pub all_errors : List ℕ → List ℕ → List ℕ → ℕ → List Err
+unfoldable pub all_errors : List ℕ → List ℕ → List ℕ → ℕ → List Finding
 all_errors t names bytes n = audit_in (rules_of t names bytes (edition_of n)) names t
 
 -- the answer: a refusal, or the number of errors, whether they fit or not

@@ -13,7 +13,7 @@ use Rattle.deflist.specs.Told.{told}
 use Rattle.arguments.specs.Job.{call_answer}
 use Rattle.targets.specs.Targets.{counted, check_assignment}
 use Rattle.types.specs.Types.{dialect_check_type}
-use Rattle.errors.specs.declared.Err.{Err}
+use Rattle.errors.specs.declared.Finding.{Finding}
 use Rattle.errors.specs.Errors.{err}
 use Rattle.validate.specs.Params.{unpack_error}
 use Rattle.audit.specs.declared.Role.{Role}
@@ -21,30 +21,30 @@ use Rattle.audit.specs.declared.Role.TheVariants.{AsTarget, AsType, Plain}
 use Rattle.audit.specs.Roles.{Placed, kind_in}
 
 -- a refusal as an error: its number, and from its values the node and the begin, the end and the file of the span
-abbrev pub refused_err : ℕ → List ℕ → Err
+abbrev pub refused_err : ℕ → List ℕ → Finding
 refused_err n vs = err n (get_or vs 0 0) (record { begin = get_or vs 1 0; end = get_or vs 2 0; file = get_or vs 3 0 })
 
-abbrev pub answer_errors : Answer → List Err
+abbrev pub answer_errors : Answer → List Finding
 answer_errors (accepted vs) = []
 answer_errors (refused n vs) = refused_err n vs ∷ []
 
 -- the job of a record's kind: the parameters of a Def or Lambda, a Call, an Assign or AssignModify
-unfoldable pub kind_errors : List ℕ → Tree → List Err
+unfoldable pub kind_errors : List ℕ → Tree → List Finding
 kind_errors names t =
     if' (wants Parameters (kind_in t)) (λ _. unpack_error (told (limited (root_in t) (written_in names t)))) (λ _.
     if' (wants Call (kind_in t)) (λ _. answer_errors (call_answer names t)) (λ _.
     if' (wants Assignment (kind_in t)) (λ _. answer_errors (check_assignment t)) (λ _. [])))
 
 -- the job of its role: a target, or a type in the dialect and the edition
-unfoldable pub role_errors : Dialect → Edition → List ℕ → Role → Tree → List Err
+unfoldable pub role_errors : Dialect → Edition → List ℕ → Role → Tree → List Finding
 role_errors d edition names AsTarget t = answer_errors (counted 0 t)
 role_errors d edition names AsType t = answer_errors (dialect_check_type edition names d.enable_types t)
 role_errors d edition names Plain t = []
 
 -- both, in this order; then the refusals of several trees in turn
-unfoldable pub refused_there : Dialect → Edition → List ℕ → Placed → List Err
+unfoldable pub refused_there : Dialect → Edition → List ℕ → Placed → List Finding
 refused_there d edition names p = kind_errors names p.tree ++ role_errors d edition names p.role p.tree
 
-unfoldable pub refusals : Dialect → Edition → List ℕ → List Placed → List Err
+unfoldable pub refusals : Dialect → Edition → List ℕ → List Placed → List Finding
 refusals d edition names [] = []
 refusals d edition names (p ∷ ps) = refused_there d edition names p ++ refusals d edition names ps

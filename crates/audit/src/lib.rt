@@ -15,8 +15,7 @@ ghost use Rattle.audit.specs.Job.{audit_errors, audit_of, audit_after};
 
 use dialect::{Dialect, Edition};
 use errors::Listing;
-use table::Ruled;
-use validate::Listed;
+use table::Refusal;
 
 // The role of a record, which its parent gives it.
 #[derive(Clone, Copy)]
@@ -38,18 +37,19 @@ pub enum Roles {
 
 // The audit in an edition, which is given by its number. A list that is too short for all errors gets the first that
 // fit whole; this is not a refusal.
-pub fn audit(table: &[u8], names: &[u8], dialect: &[u8], edition: u32, errors: &mut [u32]) -> Listed
+pub fn audit(
+    table: &[u8],
+    names: &[u8],
+    dialect: &[u8],
+    edition: u32,
+    errors: &mut [u32],
+) -> Result<u32, Refusal>
     ensures result_value { listed result ≡ audit_of table.now names.now dialect.now edition }
     ensures errors_after { errors.new ≡
         audit_after table.now names.now dialect.now edition errors.old }
 {
-    let entered = table::enter_rules(table, names, dialect, dialect::edition_of(edition));
-    match entered {
-        Ruled::By { dialect, edition } => Listed::Total(pass(
-            table, names, dialect, edition, errors,
-        )),
-        Ruled::Refused(why) => Listed::Refused(why),
-    }
+    let (d, e) = table::enter_rules(table, names, dialect, dialect::edition_of(edition))?;
+    Ok(pass(table, names, d, e, errors))
 }
 
 // The audit alone, for callers that have checked 1 to 5: returns the number of errors. It accepts any bytes, and reads

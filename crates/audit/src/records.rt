@@ -7,7 +7,6 @@ ghost use Rattle.table.specs.Check.{Headed};
 ghost use Rattle.deflist.specs.Written.{written};
 ghost use Rattle.deflist.specs.Limited.{limited};
 ghost use Rattle.deflist.specs.Told.{told};
-ghost use Rattle.deflist.specs.declared.Judged.TheVariants.{Refused};
 ghost use Rattle.arguments.specs.Job.{called};
 ghost use Rattle.targets.specs.Jobs.{targeted};
 ghost use Rattle.types.specs.Jobs.{shaped};
@@ -18,21 +17,19 @@ ghost use Rattle.audit.specs.Roles.{placed_as};
 ghost use Rattle.audit.specs.Refusals.{refused_err, answer_errors, kind_errors, role_errors, refused_there};
 
 use crate::Role;
-use arguments::Called;
-use deflist::{Fault, Judged};
+use arguments::CallArgs;
+use deflist::Fault;
 use dialect::{Dialect, Edition};
-use errors::{Err, Listing};
+use errors::{Finding, Listing};
 use soundness::kinds;
-use table::{Checked, Place, Refusal, Span};
-use targets::Targeted;
-use types::Shaped;
+use table::{Refusal, Span};
 
 // A refusal as an error.
-fn error_of(why: Refusal) -> Err
+fn error_of(why: Refusal) -> Finding
     ensures { result ≡ refused_err (number_of why) (carried why) }
 {
     match why {
-        Refusal::Bare(number) => Err {
+        Refusal::Bare(number) => Finding {
             number: number,
             node: 0,
             span: Span {
@@ -41,7 +38,7 @@ fn error_of(why: Refusal) -> Err
                 file: 0,
             },
         },
-        Refusal::Placed { number, node } => Err {
+        Refusal::Placed { number, node } => Finding {
             number: number,
             node: node,
             span: Span {
@@ -55,7 +52,7 @@ fn error_of(why: Refusal) -> Err
             node,
             span,
             earlier,
-        } => Err {
+        } => Finding {
             number: number,
             node: node,
             span: span,
@@ -64,72 +61,68 @@ fn error_of(why: Refusal) -> Err
 }
 
 // Stores a refusal, if there is one and it fits, and counts it in any case.
-fn push_refusal(found: Checked, errors: &mut [u32]) -> usize
+fn push_refusal(found: Result<(), Refusal>, errors: &mut [u32]) -> usize
     ensures { StoresFew Audit 1 (answer_errors (checked found)) errors.old result errors.new }
 {
     match found {
-        Checked::Sound => 0,
-        Checked::Refused(why) => errors::push(Listing::Audit, error_of(why), errors),
+        Ok(()) => 0,
+        Err(why) => errors::push(Listing::Audit, error_of(why), errors),
     }
 }
 
 // The refusal, if there is one, in the answer about a call, a target or an assignment, and a type.
-fn of_call(answer: Called) -> Checked
+fn of_call(answer: Result<CallArgs, Refusal>) -> Result<(), Refusal>
     ensures { answer_errors (checked result) ≡ answer_errors (called answer) }
 {
-    match answer {
-        Called::Accepted(_) => Checked::Sound,
-        Called::Refused(why) => Checked::Refused(why),
-    }
+    answer?;
+    Ok(())
 }
 
-fn of_target(answer: Targeted) -> Checked
+fn of_target(answer: Result<u32, Refusal>) -> Result<(), Refusal>
     ensures { answer_errors (checked result) ≡ answer_errors (targeted answer) }
 {
-    match answer {
-        Targeted::Leaves(_) => Checked::Sound,
-        Targeted::Refused(why) => Checked::Refused(why),
-    }
+    answer?;
+    Ok(())
 }
 
-fn of_type(answer: Shaped) -> Checked
+fn of_type(answer: Result<(), Refusal>) -> Result<(), Refusal>
     ensures { answer_errors (checked result) ≡ answer_errors (shaped answer) }
 {
     match answer {
-        Shaped::Accepted => Checked::Sound,
-        Shaped::Refused(why) => Checked::Refused(why),
+        Ok(()) => Ok(()),
+        Err(why) => Err(why),
     }
 }
 
 // The error of a parameter list; the earlier node is not reported.
-fn of_fault(f: Fault) -> Checked
+fn of_fault(f: Fault) -> Result<(), Refusal>
     requires { f.node < 2 ^ 32 }
-    ensures { answer_errors (checked result) ≡ unpack_error (Refused f) }
+    ensures { answer_errors (checked result) ≡ unpack_error (Err f) }
 {
     let span = f.span;
     let node = f.node;
-    Checked::Refused(Refusal::Spanned {
+    Err(Refusal::Spanned {
         number: f.number,
         node: node as u32,
         span: span,
-        earlier: Place::Nothing,
+        earlier: None,
     })
 }
 
-fn of_list(names: &[u8], t: &[u8], at: u32) -> Checked
+fn of_list(names: &[u8], t: &[u8], at: u32) -> Result<(), Refusal>
     requires { Headed at t.now }
     ensures { answer_errors (checked result) ≡
         unpack_error (told (limited (node_of at t.now) (written names.now at t.now))) }
 {
     let judged = deflist::judge(names, t, at);
     match judged {
-        Judged::Accepted(_) => Checked::Sound,
-        Judged::Refused(f) => of_fault(f),
+        Ok(_) => Ok(()),
+        Err(f) => of_fault(f),
     }
 }
 
 // The job of the kind of the first record of t.
-fn by_kind(names: &[u8], t: &[u8], at: u32) -> Checked
+fn by_kind(names: &[u8], t: &[u8], at: u32) -> Result<(), Refusal>
     requires { Headed at t.now }
     ensures { answer_errors (checked result) ≡ kind_errors names.now (tree_of at t.now) }
 {
@@ -139,12 +132,19 @@ fn by_kind(names: &[u8], t: &[u8], at: u32) -> Checked
         kinds::CALL => of_call(arguments::judge(names, t, at)),
         kinds::ASSIGN => of_target(targets::judge_assignment(t, at)),
         kinds::ASSIGN_MODIFY => of_target(targets::judge_assignment(t, at)),
-        _ => Checked::Sound,
+        _ => Ok(()),
     }
 }
 
 // The job of its role.
-fn by_role(d: Dialect, edition: Edition, names: &[u8], role: Role, t: &[u8], at: u32) -> Checked
+fn by_role(
+    d: Dialect,
+    edition: Edition,
+    names: &[u8],
+    role: Role,
+    t: &[u8],
+    at: u32,
+) -> Result<(), Refusal>
     requires { Headed at t.now }
     ensures { answer_errors (checked result) ≡
         role_errors d edition names.now role (tree_of at t.now) }
@@ -152,7 +152,7 @@ fn by_role(d: Dialect, edition: Edition, names: &[u8], role: Role, t: &[u8], at:
     match role {
         Role::AsTarget => of_target(targets::judge_target(t, at)),
         Role::AsType => of_type(types::judge_type(names, d, edition, t, at)),
-        Role::Plain => Checked::Sound,
+        Role::Plain => Ok(()),
     }
 }
 

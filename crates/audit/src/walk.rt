@@ -70,6 +70,7 @@ pub(crate) fn check_each(
     let mut place = at;
     let mut roles = first;
     let mut total = 0;
+    // no `for` over Nodes: the wrong answer last_record_skipped is about where the walk ends
     while RECORD <= left.len() {
         let free = errors::free(Listing::Audit, errors.len(), total);
         let e = forest::span(left);

@@ -4,6 +4,7 @@
 -- not refused exactly if every job accepts its node. The first part leaves out 10 to 19, but these are among the
 -- refusals of the second (Own). There is no induction here. Cite `zero_passes` and `passes_zero` for the answers of the
 -- jobs. Assumes nothing.
+use Rattle.std.specs.Prelude.{Some}
 use mathlib.Core.Path.{◌≡◌, refl, sym, ap, ◌∙◌}
 use mathlib.Core.List.{List, [], ◌∷◌, ◌++◌}
 use Prim.Native.Nat.{ℕ, ◌/◌}
@@ -11,7 +12,6 @@ use lib.ListN.{length}
 use Rattle.fields.proofs.Basics.{never, no_entries}
 use Rattle.dialect.specs.declared.Dialect.{Dialect}
 use Rattle.dialect.specs.declared.Edition.{Edition}
-use Rattle.dialect.specs.declared.EditionRead.TheVariants.{Known}
 use Rattle.dialect.specs.Editions.{edition_of}
 use Rattle.forest.specs.Forest.{forest}
 use Rattle.forest.proofs.Stretch.{records, nodes_records}
@@ -114,7 +114,7 @@ let_in t names bytes n {vs} e = go (rules_of t names bytes (edition_of n)) refl 
 
 -- LAW: the number of an audit that is not refused is that of an edition
 pub audit_known : (t names bytes : List ℕ) (n : ℕ) {vs : List ℕ} → audit_of t names bytes n ≡ accepted vs
-    → (edition : Edition) × (edition_of n ≡ Known edition)
+    → (edition : Edition) × (edition_of n ≡ Some edition)
 audit_known t names bytes n e = let k = let_in t names bytes n e in
     (k.1, (rules_known t names bytes k.2).1)
 
@@ -134,7 +134,7 @@ module _ (t names bytes : List ℕ) (n : ℕ) where
       )
 
   -- THEOREM: the converse, for a number that is an edition
-  pub passes_zero : {edition : Edition} → edition_of n ≡ Known edition → module_of t names bytes ≡ accepted (0 ∷ [])
+  pub passes_zero : {edition : Edition} → edition_of n ≡ Some edition → module_of t names bytes ≡ accepted (0 ∷ [])
       → AllAccept t names bytes n → audit_of t names bytes n ≡ accepted (0 ∷ [])
   passes_zero {edition} known e accepts = go (given_of t names bytes) refl e
     where

@@ -4,6 +4,7 @@
 -- by record, the children that specs/Checked.antt names (`targets_are`, `types_are`, by cases on the kind). So what
 -- holds of every tree in the role holds of every such child, and conversely (`forth`, `back`, by induction on the
 -- forest). Cite `zero_checks_all` and `checks_all_zero`. Assumes nothing.
+use Rattle.std.specs.Prelude.{Some}
 use mathlib.Core.Path.{◌≡◌, refl, sym}
 use mathlib.Core.Bool.{Bool, true, false, ◌||◌}
 use mathlib.Core.List.{List, [], ◌∷◌, ◌++◌}
@@ -14,7 +15,6 @@ use borrow.Author.Tests.{eqb-true}
 use Rattle.fields.proofs.Basics.{never}
 use Rattle.fields.specs.Choice.{if'}
 use Rattle.dialect.specs.declared.Edition.{Edition}
-use Rattle.dialect.specs.declared.EditionRead.TheVariants.{Known}
 use Rattle.dialect.specs.Editions.{edition_of}
 use Rattle.forest.specs.Forest.{record_bytes, Node, Tree, node, Forest, none, ◌then◌, forest}
 use Rattle.forest.proofs.Stretch.{records}
@@ -311,7 +311,7 @@ module _ (t names bytes : List ℕ) (n : ℕ) where
       (z.0, rw (every_node t) at nodes, targets.1, types.1)
 
   -- THEOREM: the converse, for a number that is an edition
-  pub checks_all_zero : {edition : Edition} → edition_of n ≡ Known edition → module_of t names bytes ≡ accepted (0 ∷ [])
+  pub checks_all_zero : {edition : Edition} → edition_of n ≡ Some edition → module_of t names bytes ≡ accepted (0 ∷ [])
       → Each (λ r. Fitting t names r.at) (records (length t / 24) 0 t)
       → Each (λ u. is_accepted (target_of t names (root_in u).at) ≡ true) (everywhere targets_of (forest 0 t))
       → Each (λ u. (room : ℕ) → length (stretch_of t (root_in u).at) / record_bytes ≤ room

@@ -42,7 +42,7 @@ use Rattle.targets.specs.Targets.{counted, check_assignment}
 use Rattle.targets.proofs.Files.{told_counted, told_assignment}
 use Rattle.types.specs.Types.{dialect_check_type}
 use Rattle.types.proofs.Files.{told_type}
-use Rattle.errors.specs.declared.Err.{Err}
+use Rattle.errors.specs.declared.Finding.{Finding}
 use Rattle.errors.specs.Errors.{unless, is_list_error, without_lists}
 use Rattle.validate.specs.declared.Arm.{Arm}
 use Rattle.validate.specs.declared.Arm.TheVariants.{Def, Load, Told as ToldArm, Below}
@@ -69,10 +69,10 @@ module _ (t : List ℕ) where
   abbrev Here : Node → Type 0
   Here r = r.file ≡ file_at t r.at
 
-  abbrev Errs : List Err → Type 0
+  abbrev Errs : List Finding → Type 0
   Errs es = Each (FileThere t) es
 
-  both : (es fs : List Err) → Errs es → Errs fs → Errs (es ++ fs)
+  both : (es fs : List Finding) → Errs es → Errs fs → Errs (es ++ fs)
   both [] fs a b = b
   both (e ∷ es) fs a b = (a.0, both es fs a.1 b)
 
@@ -118,7 +118,7 @@ module _ (t : List ℕ) where
 
   module _ (d : Dialect) (names : List ℕ) where
     -- the statements
-    arm_at : (s : Standing) (r : Node) (ks : Forest) (visit : Standing → List Err) → All Here (nodes_of (node r ks))
+    arm_at : (s : Standing) (r : Node) (ks : Forest) (visit : Standing → List Finding) → All Here (nodes_of (node r ks))
         → ((p : Standing) → Errs (visit p)) → (a : Arm) → Errs (on_arm d names s r ks visit a)
     arm_at s r ks visit h rest Def =
         both (def_errors d names r ks) (visit in_def) (with_at d names d.enable_def def_not_permitted r ks h)
@@ -130,7 +130,7 @@ module _ (t : List ℕ) where
     arm_at s r ks visit h rest (ToldArm n) = (λ late. (all_tree Here r ks h).0, tt)
     arm_at s r ks visit h rest (Below p) = rest p
 
-    if_at : (b : Bool) (es : List Err) → Errs es → Errs (if' b (λ _. es) (λ _. []))
+    if_at : (b : Bool) (es : List Finding) → Errs es → Errs (if' b (λ _. es) (λ _. []))
     if_at true es h = h
     if_at false es h = tt
 
@@ -240,7 +240,7 @@ module _ (t : List ℕ) where
         (both (kind_errors names p.tree) (role_errors d edition names p.role p.tree) (kind_at p.tree h.0)
         (role_at edition p.role p.tree h.0)) (refusals_at edition ps h.1)
 
-  without_at : (es : List Err) → Errs es → Errs (without_lists es)
+  without_at : (es : List Finding) → Errs es → Errs (without_lists es)
   unfolding without_lists
   without_at [] h = tt
   without_at (e ∷ es) h = go (is_list_error e.number) (without_at es h.1)

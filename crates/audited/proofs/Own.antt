@@ -3,6 +3,9 @@
 -- Lambda instead; this law says that nothing is lost by that. The job of a Def or Lambda is its parameter list
 -- (`list_of`), so no error there means that the list passes (`quiet_passes`). The induction is on the trees, with the
 -- roles of the audit. Assumes nothing.
+use Rattle.std.specs.Prelude.{Err, Ok, Result}
+use Rattle.deflist.specs.declared.Fault.{Fault}
+use Rattle.deflist.specs.declared.Counts.{Counts}
 use mathlib.Core.Path.{◌≡◌, refl}
 use mathlib.Core.Bool.{Bool, true, false, not, ◌||◌}
 use mathlib.Core.List.{List, []}
@@ -13,8 +16,6 @@ use Rattle.table.specs.Check.{wants}
 use Rattle.deflist.specs.Written.{params_in}
 use Rattle.deflist.specs.Limited.{limited}
 use Rattle.deflist.specs.Told.{told}
-use Rattle.deflist.specs.declared.Judged.{Judged}
-use Rattle.deflist.specs.declared.Judged.TheVariants.{Accepted, Refused}
 use Rattle.validate.specs.Params.{unpack_error}
 use Rattle.validate.proofs.Own.{passes, has_list, lists_pass, list_passes}
 use Rattle.audit.specs.declared.Role.{Role}
@@ -24,9 +25,9 @@ use Rattle.audit.specs.Refusals.{kind_errors}
 use Rattle.audited.specs.Said.{All}
 use Rattle.audited.proofs.Everywhere.{all_left, all_right}
 
-quiet_passes : (j : Judged) → unpack_error j ≡ [] → passes j ≡ true
-quiet_passes (Accepted c) e = refl
-quiet_passes (Refused f) e = never (cc)
+quiet_passes : (j : Result Counts Fault) → unpack_error j ≡ [] → passes j ≡ true
+quiet_passes (Ok c) e = refl
+quiet_passes (Err f) e = never (cc)
 
 -- a test b that is made only if a holds
 unless_asked : (a b : Bool) → (a ≡ true → b ≡ true) → (not a || b) ≡ true
@@ -49,7 +50,7 @@ module _ (names : List ℕ) where
     tree_passes : (role : Role) (t : Tree) → All Quiet (placed_tree role t)
         → list_passes names t ≡ true
     tree_passes role (node r ks) a =
-        let j : Judged = told (limited r (params_in names ks)) in
+        let j : (Result Counts Fault) = told (limited r (params_in names ks)) in
         and_both (not (has_list r.kind) || passes j) (lists_pass names ks)
         (unless_asked (has_list r.kind) (passes j) (λ h. quiet_passes j (list_of names r ks a.0 h)))
         (forest_passes (roles_of r.kind r.detail) ks a.1)

@@ -4,6 +4,7 @@
 -- known then is the record `Entered` (`entered`, by cases on the steps); from it follow where the two stretches lie and
 -- what the parameter job and the call job answer (`params_say`, `call_say`). An accepted list has as many flat
 -- parameters as are counted (`flats_long`, by its cut). Assumes nothing.
+use Rattle.std.specs.Prelude.{Err, Ok, Result}
 use mathlib.Core.Path.{◌≡◌, refl, sym, ap, ◌∙◌}
 use mathlib.Core.Bool.{Bool, true, false, ◌&&◌, ◌||◌}
 use mathlib.Core.List.{List, []}
@@ -21,8 +22,6 @@ use Rattle.table.specs.Numbers.{wrong_node, short_buffer}
 use Rattle.table.specs.Answer.{Answer, accepted, refused, and_then, refusal, checked}
 use Rattle.table.specs.Check.{most_nodes, Within, check_of, wants, node_fits, stretch_of, entry_check, on_node}
 use Rattle.table.specs.declared.Refusal.{Refusal}
-use Rattle.table.specs.declared.Checked.{Checked}
-use Rattle.table.specs.declared.Checked.TheVariants.{Sound, Refused}
 use Rattle.table.specs.declared.Wanted.TheVariants.{Call, Parameters}
 use Rattle.table.proofs.Checking.{accepted_clean}
 use Rattle.table.proofs.Handed.{stretch_within}
@@ -85,12 +84,13 @@ module _ (t : List ℕ) (i : ℕ) {s : List ℕ} (s-is : s ≡ stretch_of t i) (
   )
 
 -- 1 to 4 and 6, 6, 7
-module _ (t ns : List ℕ) (call def room : ℕ) {e : Checked} (e-is : checked e ≡ entry_check Call t ns call) where
-  pub enter_refused : {why : Refusal} → e ≡ Refused why → refusal why ≡ entry_of t ns call def room
+module _ (t ns : List ℕ) (call def room : ℕ) {e : Result (Unit {0}) Refusal}
+    (e-is : checked e ≡ entry_check Call t ns call) where
+  pub enter_refused : {why : Refusal} → e ≡ Err why → refusal why ≡ entry_of t ns call def room
   unfolding entry_of
   enter_refused {why} h = let told : entry_check Call t ns call ≡ refusal why = sym e-is ∙ ap checked h in rw told refl
 
-  module _ (good : e ≡ Sound) {b : Bool} (b_is : b ≡ is_def t def) where
+  module _ (good : e ≡ Ok tt) {b : Bool} (b_is : b ≡ is_def t def) where
     passed : entry_check Call t ns call ≡ accepted []
     passed = sym e-is ∙ ap checked good
 

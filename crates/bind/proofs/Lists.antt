@@ -4,6 +4,7 @@
 -- name and to the search for an empty one (`named_one`, `empty_one`: one case for each kind). The modes of the flat
 -- parameters are those of the list (`flats_modes`, by induction on it), so there are no more of them than parameters
 -- (`flats_short`). Assumes nothing.
+use Rattle.std.specs.Prelude.{Some}
 use mathlib.Core.Path.{◌≡◌, refl, ap}
 use mathlib.Core.Bool.{◌&&◌}
 use mathlib.Core.List.{List, [], ◌∷◌, ◌++◌, map}
@@ -16,7 +17,6 @@ use Rattle.forest.specs.Names.{name_of, same}
 use Rattle.forest.proofs.Stretch.{forest_none, forest_tree, rest_part, record_or_none, length_rest}
 use Rattle.table.specs.Numbers.{empty_parameter}
 use Rattle.table.specs.Answer.{refused_at}
-use Rattle.table.specs.declared.Place.TheVariants.{At}
 use Rattle.deflist.specs.Written.{Name, Param, normal, no_args, slash, args, kwargs, node_in, kind_in, kind_at}
 use Rattle.deflist.specs.Written.{param, param_of}
 use Rattle.deflist.specs.Unpack.{next_state, mode_of, modes_from}
@@ -39,10 +39,15 @@ module _ (ns : List ℕ) (i : ℕ) (t : List ℕ) where
   unfolding arguments_in
   args_end h = rw (forest_none i t h) refl
 
+  pub args_next : {next : ℕ} {after : List ℕ} → 24 ≤ length t → next ≡ i + span_of t / 24 → after ≡ rest_of t
+      → arguments_in ns (forest i t) ≡ argument_of ns (node_of i t) ∷ arguments_in ns (forest next after)
+  unfolding arguments_in
+  args_next big next-is after-is = rw (forest_tree i t big, next-is, after-is) refl
+
+  -- the same, cut as code cuts it
   pub args_on : {e : ℕ} → 24 ≤ length t → e ≡ span_of t → arguments_in ns (forest i t) ≡ argument_of ns (node_of i t)
       ∷ arguments_in ns (forest (i + e / 24) (take (length t - e) (drop e t)))
-  unfolding arguments_in
-  args_on {e} big e-is = rw (forest_tree i t big, rest_part e t e-is, e-is) refl
+  args_on {e} big e-is = args_next big (ap (λ (n : ℕ). i + n / 24) e-is) (rest_part e t e-is)
 
   -- its record, and its kind
   pub arg_node : call.node_in (argument_of ns (node_of i t)) ≡ node_of i t
@@ -95,7 +100,7 @@ module _ (ns : List ℕ) (i : ℕ) (t : List ℕ) where
 -- LAW: one parameter more, for the search by name and for the search of an empty one
 pub named_one : (f : ℕ) (x : Name) (s : State) (p : Param) (fs : List FlatParam)
     → named_from f x (map (flat_param p) (mode_of s (kind_in p)) ++ fs)
-    ≡ if' (nameable s (kind_in p) && same (name_in p) x) (λ _. At f) (λ _. named_from (f + flats_of (kind_in p)) x fs)
+    ≡ if' (nameable s (kind_in p) && same (name_in p) x) (λ _. Some f) (λ _. named_from (f + flats_of (kind_in p)) x fs)
 unfolding named_from
 named_one f x BeforeSlash (normal r n d) fs = refl
 named_one f x SeenSlash (normal r n d) fs = refl

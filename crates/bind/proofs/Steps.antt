@@ -2,6 +2,7 @@
 -- word at a place, what an argument reaches by its place or by its name, the number of one that reaches nothing, and an
 -- argument in its turn. The tests before a return are known, so the definition computes. Nothing here recurs. Assumes
 -- nothing.
+use Rattle.std.specs.Prelude.{Err, Ok, Option, ℕ}
 use mathlib.Core.Path.{◌≡◌, refl, sym, ap, ◌∙◌}
 use mathlib.Core.Bool.{Bool, true, false, ◌&&◌}
 use mathlib.Core.List.{List}
@@ -19,8 +20,6 @@ use Rattle.soundness.specs.KindNumbers.{kind_def, kind_positional, kind_named, k
 use Rattle.table.specs.Numbers.{already_filled}
 use Rattle.table.specs.Answer.{Answer, refused_at, refusal}
 use Rattle.table.specs.declared.Refusal.{Refusal}
-use Rattle.table.specs.declared.Checked.TheVariants.{Sound, Refused}
-use Rattle.table.specs.declared.Place.{Place}
 use Rattle.deflist.specs.Written.{Name}
 use Rattle.parameters.specs.declared.DefParamIndices.{DefParamIndices}
 use Rattle.arguments.specs.Written.{kind_at, argument, argument_of}
@@ -81,13 +80,13 @@ module _ (d : DefParamIndices) (ns params : List ℕ) (n : ℕ) (t : List ℕ) {
   unfolding reaches argument_of
   reach_positional h r-is i j = r-is ∙ rw (← (kind_positional_lem k_is h)) refl
 
-  pub reach_named : k ≡ kind_named → {x : Name} {p : Place} {r : Reach} → x ≡ name_of ns (node_of 0 t)
+  pub reach_named : k ≡ kind_named → {x : Name} {p : Option ℕ} {r : Reach} → x ≡ name_of ns (node_of 0 t)
       → ((i : ℕ) → p ≡ named_from 0 x (flats_in d.num_positional_only ns i params)) → r ≡ by_name p d.kwargs
       → (i j : ℕ)
       → r ≡ reaches d (flats_in d.num_positional_only ns i params) n (argument_of ns (node_of j t))
   unfolding reaches argument_of name_of
   reach_named h {x} x-is p-is r-is i j =
-      r-is ∙ ap (λ (q : Place). by_name q d.kwargs) (p-is i)
+      r-is ∙ ap (λ (q : Option ℕ). by_name q d.kwargs) (p-is i)
       ∙ rw (← (kind_named_lem k_is h), x-is) refl
 
   pub reach_nowhere : (k ≡ kind_positional → ⊥) → (k ≡ kind_named → ⊥) → (i j : ℕ)
@@ -135,12 +134,12 @@ module _ {k m : ℕ} (k_is : k ≡ m) where
 -- an argument in its turn
 module _ (place i : ℕ) (k : Kind) (r : Node) (ws : List ℕ) {w : ℕ} (w-is : w ≡ get_or ws i 0) where
   pub turn_taken : 0 < w → (why : Refusal) → refusal why ≡ refused_at already_filled r
-      → stored (Refused why) ws ≡ turn place (Fills i) k r ws
+      → stored (Err why) ws ≡ turn place (Fills i) k r ws
   unfolding turn stored
   turn_taken h why a-is = a-is ∙ rw (← w-is, lt-ltb 0 w h) refl
 
   pub turn_fills : w ≤ 0 → {us vs : List ℕ} → us ≡ set ws i r.at → vs ≡ set us place i
-      → stored Sound vs ≡ turn place (Fills i) k r ws
+      → stored (Ok tt) vs ≡ turn place (Fills i) k r ws
   unfolding turn stored
   turn_fills h us-are vs-are = rw (← w-is, le-ltb 0 w h, vs-are, us-are) refl
 
@@ -149,11 +148,11 @@ module _ (place : ℕ) (k : Kind) (r : Node) (ws : List ℕ) {x : Reach} where
   turn_filling h a-is = rw h a-is
 
   pub turn_joins : {i : ℕ} → x ≡ Joins i → {vs : List ℕ} → vs ≡ set ws place i
-      → stored Sound vs ≡ turn place x k r ws
+      → stored (Ok tt) vs ≡ turn place x k r ws
   unfolding turn stored
   turn_joins h vs-are = rw (h, vs-are) refl
 
   pub turn_nowhere : x ≡ Nowhere → {n : ℕ} → n ≡ unreached k → (why : Refusal) → refusal why ≡ refused_at n r
-      → stored (Refused why) ws ≡ turn place x k r ws
+      → stored (Err why) ws ≡ turn place x k r ws
   unfolding turn stored
   turn_nowhere h n_is why a-is = a-is ∙ rw (h, n_is) refl

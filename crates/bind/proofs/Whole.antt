@@ -3,6 +3,8 @@
 -- words fit the space and the list (`kept_fits`, `kept_lent`). The own rules of def and call come first: what passes
 -- them is `Kept` (`rules_own`, by cases on both answers), and a refusal leaves the list (`lay_refused`,
 -- `bind_refused`). `bind` cites `bind_refused` and `bind_bound`. Assumes nothing.
+use Rattle.std.specs.Prelude.{Err, Ok, Result}
+use Rattle.arguments.specs.declared.CallArgs.{CallArgs}
 use mathlib.Core.Path.{◌≡◌, refl, sym, ap, ◌∙◌}
 use mathlib.Core.Bool.{Bool, true, false}
 use mathlib.Core.List.{List, [], ◌∷◌, ◌++◌}
@@ -15,8 +17,6 @@ use Rattle.forest.proofs.Stretch.{length_kids, length_rest}
 use Rattle.table.specs.Answer.{Answer, accepted, refused, and_then, refusal, checked}
 use Rattle.table.specs.Check.{Within, stretch_of}
 use Rattle.table.specs.declared.Refusal.{Refusal}
-use Rattle.table.specs.declared.Checked.{Checked}
-use Rattle.table.specs.declared.Checked.TheVariants.{Sound, Refused}
 use Rattle.table.proofs.Answers.{never_accepted, never_passed}
 use Rattle.deflist.specs.Written.{Param, params_in, written}
 use Rattle.deflist.specs.Unpack as outcome
@@ -30,14 +30,10 @@ use Rattle.deflist.proofs.Limited.{limited_accepted}
 use Rattle.parameters.specs.Indices.{values_of, counted_of}
 use Rattle.parameters.specs.Params.{unpacked, answer_of, list_of}
 use Rattle.parameters.specs.declared.Counted.{Counted}
-use Rattle.parameters.specs.declared.Unpacked.{Unpacked}
-use Rattle.parameters.specs.declared.Unpacked.TheVariants.{Accepted, Refused as Unfit}
 use Rattle.parameters.proofs.Promises.{values_injective}
 use Rattle.arguments.specs.Written.{Argument, arguments_in}
 use Rattle.arguments.specs.Call as calling
 use Rattle.arguments.specs.Job.{outcome_answer, called}
-use Rattle.arguments.specs.declared.Called.{Called}
-use Rattle.arguments.specs.declared.Called.TheVariants.{Accepted as Ordered, Refused as Disordered}
 use Rattle.bind.specs.FlatList.{FlatParam, flats_from, flats}
 use Rattle.bind.specs.Binding.{along, star_check, empty_check, binding}
 use Rattle.bind.specs.Job.{counting, no_words, lists_bound, arguments_at, entry_of, words_of, answered, answered_at}
@@ -51,27 +47,29 @@ use Rattle.bind.proofs.Entry.{flats_long}
 
 -- 80, then 81 to 83, then 84
 module _ (c : Counted) (fs : List FlatParam) (ws vs : List ℕ) (qs : List Argument) where
-  stops : (r : Checked) (why : Refusal) → checked r ≡ refusal why → stored r vs ≡ refusal why
+  stops : (r : Result (Unit {0}) Refusal) (why : Refusal) → checked r ≡ refusal why → stored r vs ≡ refusal why
   unfolding stored
-  stops Sound why e = never (cc)
-  stops (Refused w) why e = e
+  stops (Ok _) why e = never (cc)
+  stops (Err w) why e = e
 
-  passes : (r : Checked) → checked r ≡ accepted [] → stored r vs ≡ accepted vs
+  passes : (r : Result (Unit {0}) Refusal) → checked r ≡ accepted [] → stored r vs ≡ accepted vs
   unfolding stored
-  passes Sound e = refl
-  passes (Refused w) e = never (cc)
+  passes (Ok _) e = refl
+  passes (Err w) e = never (cc)
 
-  fill_is : (a x e r : Checked) → checked a ≡ star_check qs → stored x vs ≡ along c.flat c.indices fs 0 ws qs
+  fill_is : (a x e r : Result (Unit {0}) Refusal) → checked a ≡ star_check qs
+      → stored x vs ≡ along c.flat c.indices fs 0 ws qs
       → checked e ≡ empty_check 0 fs vs → checked r ≡ and_then (checked a) (λ _. and_then (checked x) (λ _. checked e))
       → stored r vs ≡ binding c fs ws qs
   unfolding binding stored
-  fill_is (Refused w) x e r a-is x-is e-is r-is = stops r w r-is ∙ rw (← a-is) refl
-  fill_is Sound (Refused w) e r a-is x-is e-is r-is = stops r w r-is ∙ rw (← a-is, ← x-is) refl
-  fill_is Sound Sound (Refused w) r a-is x-is e-is r-is = stops r w r-is ∙ rw (← a-is, ← x-is, ← e-is) refl
-  fill_is Sound Sound Sound r a-is x-is e-is r-is = passes r r-is ∙ rw (← a-is, ← x-is, ← e-is) refl
+  fill_is (Err w) x e r a-is x-is e-is r-is = stops r w r-is ∙ rw (← a-is) refl
+  fill_is (Ok _) (Err w) e r a-is x-is e-is r-is = stops r w r-is ∙ rw (← a-is, ← x-is) refl
+  fill_is (Ok _) (Ok _) (Err w) r a-is x-is e-is r-is = stops r w r-is ∙ rw (← a-is, ← x-is, ← e-is) refl
+  fill_is (Ok _) (Ok _) (Ok _) r a-is x-is e-is r-is = passes r r-is ∙ rw (← a-is, ← x-is, ← e-is) refl
 
 -- the same of code's answers, which say it for all names, indices and states
-pub filled : (ns params args : List ℕ) (param first : ℕ) (c : Counted) (ws vs : List ℕ) (a x e y r : Checked)
+pub filled : (ns params args : List ℕ) (param first : ℕ) (c : Counted) (ws vs : List ℕ)
+    (a x e y r : Result (Unit {0}) Refusal)
     → ((ns : List ℕ) → checked a ≡ star_check (arguments_in ns (forest first args)))
     → ((i : ℕ) → stored x vs ≡ along c.flat c.indices
     (flats_in c.indices.num_positional_only ns i params) 0 ws (arguments_in ns (forest first args)))
@@ -139,11 +137,12 @@ module _ {t ns : List ℕ} {call def : ℕ} {c : Counted} (k : Kept t ns call de
         (k, (omega (arith, many_is ns), omega (arith, flat_few, many_is ns, r.room)))
 
   -- and are as many as the answer says
-  pub kept_answer : (r : Bound) (x : Checked) → bound r ≡ answered (checked x) c.flat many
-      → checked x ≡ without (continued (Accepted c) t ns call def)
-      → bound r ≡ answered_at (continued (Accepted c) t ns call def) t ns call def
+  pub kept_answer : (r : Result Bound Refusal) (x : Result (Unit {0}) Refusal)
+      → bound r ≡ answered (checked x) c.flat many
+      → checked x ≡ without (continued (Ok c) t ns call def)
+      → bound r ≡ answered_at (continued (Ok c) t ns call def) t ns call def
   kept_answer r x r-is x-is =
-      r-is ∙ ap (λ (a : Answer). answered a c.flat many) x-is ∙ go (continued (Accepted c) t ns call def)
+      r-is ∙ ap (λ (a : Answer). answered a c.flat many) x-is ∙ go (continued (Ok c) t ns call def)
     where
       go : (a : Answer) → answered (without a) c.flat many ≡ answered_at a t ns call def
       go (accepted ws) = λ i. accepted (k.flat i ∷ many_is ns i ∷ [])
@@ -152,40 +151,43 @@ module _ {t ns : List ℕ} {call def : ℕ} {c : Counted} (k : Kept t ns call de
 -- the words are laid at the front of the list, unless they are refused
 module _ (t ns : List ℕ) (call def : ℕ) (c : Counted) (n : ℕ) (us vs list : List ℕ)
     (long : n ≡ c.flat + length (arguments_at t ns call)) (us-are : us ≡ replicate n 0)
-    (x : Checked) (x-is : stored x vs ≡ binding_at c t ns call def us) {b : Bool} (b_is : b ≡ is_refused x) where
-  words_are : stored x vs ≡ continued (Accepted c) t ns call def
+    (x : Result (Unit {0}) Refusal) (x-is : stored x vs ≡ binding_at c t ns call def us) {b : Bool}
+    (b_is : b ≡ is_refused x) where
+  words_are : stored x vs ≡ continued (Ok c) t ns call def
   unfolding continued
   words_are = x-is ∙ rw (us-are, long) refl
 
-  pub lay_refused : b ≡ true → (checked x ≡ without (continued (Accepted c) t ns call def))
-      × (list ≡ laid (continued (Accepted c) t ns call def) list)
+  pub lay_refused : b ≡ true → (checked x ≡ without (continued (Ok c) t ns call def))
+      × (list ≡ laid (continued (Ok c) t ns call def) list)
   unfolding stored
   lay_refused h = rw (← words_are) (go x (sym b_is ∙ h))
     where
-      go : (x : Checked) → is_refused x ≡ true → (checked x ≡ without (stored x vs)) × (list ≡ laid (stored x vs) list)
-      go Sound e = never (cc)
-      go (Refused w) e = (refl, refl)
+      go : (x : Result (Unit {0}) Refusal) → is_refused x ≡ true
+          → (checked x ≡ without (stored x vs)) × (list ≡ laid (stored x vs) list)
+      go (Ok _) e = never (cc)
+      go (Err w) e = (refl, refl)
 
   pub lay_written : b ≡ false → {list' : List ℕ} → list' ≡ vs ++ drop (length vs) list
-      → (checked x ≡ without (continued (Accepted c) t ns call def))
-      × (list' ≡ laid (continued (Accepted c) t ns call def) list)
+      → (checked x ≡ without (continued (Ok c) t ns call def))
+      × (list' ≡ laid (continued (Ok c) t ns call def) list)
   unfolding stored
   lay_written h {list'} list_is = rw (← words_are) (go x (sym b_is ∙ h))
     where
-      go : (x : Checked) → is_refused x ≡ false
+      go : (x : Result (Unit {0}) Refusal) → is_refused x ≡ false
           → (checked x ≡ without (stored x vs)) × (list' ≡ laid (stored x vs) list)
-      go Sound e = (refl, list_is)
-      go (Refused w) e = never (cc)
+      go (Ok _) e = (refl, list_is)
+      go (Err w) e = never (cc)
 
 -- the own rules of def and call
-module _ (t ns : List ℕ) (call def room : ℕ) {e : Checked} (e-is : checked e ≡ entry_of t ns call def room) where
-  pub rules_refused : {why : Refusal} → e ≡ Refused why
-      → (continued (Unfit why) t ns call def ≡ words_of t ns call def room) × IfKept (Unfit why) t ns call def room
+module _ (t ns : List ℕ) (call def room : ℕ) {e : Result (Unit {0}) Refusal}
+    (e-is : checked e ≡ entry_of t ns call def room) where
+  pub rules_refused : {why : Refusal} → e ≡ Err why
+      → (continued (Err why) t ns call def ≡ words_of t ns call def room) × IfKept (Err why) t ns call def room
   unfolding continued words_of
   rules_refused {why} h = let told : entry_of t ns call def room ≡ refusal why = sym e-is ∙ ap checked h in
       (rw told refl, tt)
 
-  module _ (good : e ≡ Sound) where
+  module _ (good : e ≡ Ok tt) where
     let_in : entry_of t ns call def room ≡ accepted []
     let_in = sym e-is ∙ ap checked good
 
@@ -211,48 +213,49 @@ module _ (t ns : List ℕ) (call def room : ℕ) {e : Checked} (e-is : checked e
       def_within = (def_stretch ent).1;
     }
 
-    own : (u : Unpacked) (k : Called) (x : outcome.Outcome) → unpacked u ≡ answer_of x
+    own : (u : Result Counted Refusal) (k : Result CallArgs Refusal) (x : outcome.Outcome) → unpacked u ≡ answer_of x
         → called k ≡ outcome_answer (calling.unpack qs) → limited owner ps ≡ x
         → (continued (both u k) t ns call def ≡ counting x (λ c. and_then (outcome_answer (calling.unpack qs)) (λ _.
         binding c (flats ps) (no_words c qs) qs))) × IfKept (both u k) t ns call def room
     unfolding continued both
-    own (Unfit w) k (outcome.accepted c) e f x-is = never_accepted w e
-    own (Unfit w) k (outcome.refused n r) e f x-is = (e, tt)
-    own (Unfit w) k (outcome.repeated i r) e f x-is = (e, tt)
-    own (Unfit w) k (outcome.internal i r) e f x-is = (e, tt)
-    own (Accepted d) k (outcome.refused n r) e f x-is = never_passed (sym e)
-    own (Accepted d) k (outcome.repeated i r) e f x-is = never_passed (sym e)
-    own (Accepted d) k (outcome.internal i r) e f x-is = never_passed (sym e)
-    own (Accepted d) (Disordered w) (outcome.accepted c) e f x-is = (rw (← f) refl, tt)
-    own (Accepted d) (Ordered a) (outcome.accepted c) e f x-is =
+    own (Err w) k (outcome.accepted c) e f x-is = never_accepted w e
+    own (Err w) k (outcome.refused n r) e f x-is = (e, tt)
+    own (Err w) k (outcome.repeated i r) e f x-is = (e, tt)
+    own (Err w) k (outcome.internal i r) e f x-is = (e, tt)
+    own (Ok d) k (outcome.refused n r) e f x-is = never_passed (sym e)
+    own (Ok d) k (outcome.repeated i r) e f x-is = never_passed (sym e)
+    own (Ok d) k (outcome.internal i r) e f x-is = never_passed (sym e)
+    own (Ok d) (Err w) (outcome.accepted c) e f x-is = (rw (← f) refl, tt)
+    own (Ok d) (Ok a) (outcome.accepted c) e f x-is =
         let values : values_of d ≡ values_of (counted_of c) = cc in
         let same : d ≡ counted_of c = values_injective d (counted_of c) values in
         rw (same, ← f) (refl, (kept c (limited_accepted owner ps x-is).1, record { room = ent.room }))
 
-    pub rules_own : (r : Unpacked) → OwnRules t ns call def r
+    pub rules_own : (r : Result Counted Refusal) → OwnRules t ns call def r
         → (continued r t ns call def ≡ words_of t ns call def room) × IfKept r t ns call def room
     unfolding words_of lists_bound
     rules_own r o = rw (let_in, o.is)
         (own o.params o.args (limited owner ps) (o.list_is ∙ params_say ent) (o.call_is ∙ call_say ent) refl)
 
 -- the job
-pub if_kept : (t ns : List ℕ) (call def n : ℕ) (r : Unpacked) {c : Counted} → IfKept r t ns call def n → r ≡ Accepted c
+pub if_kept : (t ns : List ℕ) (call def n : ℕ) (r : Result Counted Refusal) {c : Counted} → IfKept r t ns call def n
+    → r ≡ Ok c
     → Kept t ns call def c × Roomy t ns call def n
 if_kept t ns call def n r k h = rw h at k
 
-module _ (t ns : List ℕ) (call def : ℕ) (list : List ℕ) {r : Unpacked}
+module _ (t ns : List ℕ) (call def : ℕ) (list : List ℕ) {r : Result Counted Refusal}
     (r-is : continued r t ns call def ≡ words_of t ns call def (length list)) where
-  pub bind_refused : {why : Refusal} → r ≡ Unfit why
+  pub bind_refused : {why : Refusal} → r ≡ Err why
       → (refusal why ≡ bind_of t ns call def (length list)) × (list ≡ list_after t ns call def list)
   unfolding bind_of list_after continued
   bind_refused {why} h = let told : words_of t ns call def (length list) ≡ refusal why = sym r-is ∙ rw h refl in
       rw told (refl, refl)
 
-  pub bind_bound : {c : Counted} → r ≡ Accepted c → (x : Bound) {list' : List ℕ}
-      → (bound x ≡ answered_at (continued (Accepted c) t ns call def) t ns call def)
-      × (list' ≡ laid (continued (Accepted c) t ns call def) list)
+  pub bind_bound : {c : Counted} → r ≡ Ok c → (x : Result Bound Refusal) {list' : List ℕ}
+      → (bound x ≡ answered_at (continued (Ok c) t ns call def) t ns call def)
+      × (list' ≡ laid (continued (Ok c) t ns call def) list)
       → (bound x ≡ bind_of t ns call def (length list)) × (list' ≡ list_after t ns call def list)
   unfolding bind_of list_after
   bind_bound {c} h x both-are =
-      let told : continued (Accepted c) t ns call def ≡ words_of t ns call def (length list) = rw h at r-is in
+      let told : continued (Ok c) t ns call def ≡ words_of t ns call def (length list) = rw h at r-is in
       rw (← told) both-are

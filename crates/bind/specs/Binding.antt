@@ -2,14 +2,12 @@
 -- 84. The words of a binding are one for each flat parameter, the node of the argument that it takes, and then one for
 -- each argument, the flat index that it reached. All are 0 at first; an argument is never node 0. These are
 -- definitions.
-use Rattle.std.specs.Prelude.{Bool, true, false, not, ◌&&◌, ◌||◌, List, [], ◌∷◌, ℕ, ◌+◌, get_or, set, eqb, ltb}
+use Rattle.std.specs.Prelude.{Bool, true, false, not, ◌&&◌, ◌||◌, List, [], ◌∷◌, ℕ, ◌+◌, get_or, set, eqb, ltb, None, Option, Some}
 use Rattle.fields.specs.Choice.{if'}
 use Rattle.forest.specs.Forest.{Node}
 use Rattle.forest.specs.Names.{same}
 use Rattle.table.specs.Numbers.{star_argument, too_many_positional, unknown_named, already_filled, empty_parameter}
 use Rattle.table.specs.Answer.{Answer, accepted, refused, and_then, refused_at}
-use Rattle.table.specs.declared.Place.{Place}
-use Rattle.table.specs.declared.Place.TheVariants.{At, Nothing}
 use Rattle.deflist.specs.Written.{Name}
 use Rattle.deflist.specs.Unpack.{mode_pos_or_name, mode_name_only}
 use Rattle.parameters.specs.declared.DefParamIndices.{DefParamIndices}
@@ -26,24 +24,24 @@ abbrev pub called_by_name : ℕ → Bool
 called_by_name mode = eqb mode mode_pos_or_name || eqb mode mode_name_only
 
 -- the flat index of the parameter of this name, where the first one has the index i
-unfoldable pub named_from : ℕ → Name → List FlatParam → Place
-named_from i x [] = Nothing
+unfoldable pub named_from : ℕ → Name → List FlatParam → Option ℕ
+named_from i x [] = None
 named_from i x (p ∷ ps) =
-    if' (called_by_name p.mode && same p.name x) (λ _. At i) (λ _. named_from (i + 1) x ps)
+    if' (called_by_name p.mode && same p.name x) (λ _. Some i) (λ _. named_from (i + 1) x ps)
 
 -- `*args` or `**kwargs`, if there is one, collects the rest
-abbrev pub collected : Place → Reach
-collected (At i) = Joins i
-collected Nothing = Nowhere
+abbrev pub collected : Option ℕ → Reach
+collected (Some i) = Joins i
+collected None = Nowhere
 
 -- positional argument k fills flat parameter k, if that is positional; else it goes to `*args`
 abbrev pub by_place : DefParamIndices → ℕ → Reach
 by_place d k = if' (ltb k d.num_positional) (λ _. Fills k) (λ _. collected d.args)
 
 -- a named one fills the parameter of its name; else it goes to `**kwargs`
-abbrev pub by_name : Place → Place → Reach
-by_name (At i) rest = Fills i
-by_name Nothing rest = collected rest
+abbrev pub by_name : Option ℕ → Option ℕ → Reach
+by_name (Some i) rest = Fills i
+by_name None rest = collected rest
 
 -- what argument k reaches: in an accepted call the positional ones come first (20), so k counts positional arguments
 unfoldable pub reaches : DefParamIndices → List FlatParam → ℕ → Argument → Reach

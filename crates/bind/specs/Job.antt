@@ -1,5 +1,6 @@
 -- The job: its answer and the list afterwards, for every input. These are definitions.
-use Rattle.std.specs.Prelude.{Bool, ◌&&◌, List, [], ◌∷◌, ◌++◌, ℕ, ◌+◌, ◌*◌, ◌/◌, length, drop, replicate, eqb, ltb, leb}
+use Rattle.std.specs.Prelude.{Bool, ◌&&◌, List, [], ◌∷◌, ◌++◌, ℕ, ◌+◌, ◌*◌, ◌/◌, length, drop, replicate, eqb, ltb, leb, Err, Ok, Result}
+use Rattle.table.specs.declared.Refusal.{Refusal}
 use Rattle.fields.specs.Choice.{if'}
 use Rattle.forest.specs.Forest.{record_bytes, Node, node_of, tree_of}
 use Rattle.soundness.specs.KindNumbers.{kind_def}
@@ -19,7 +20,6 @@ use Rattle.arguments.specs.Job.{outcome_answer}
 use Rattle.bind.specs.FlatList.{flats}
 use Rattle.bind.specs.Binding.{binding}
 use Rattle.bind.specs.declared.Bound.{Bound}
-use Rattle.bind.specs.declared.Bound.TheVariants.{Accepted, Refused}
 
 -- 6 unless the def is within the table and a Def; a Lambda is not accepted
 unfoldable pub is_def : List ℕ → ℕ → Bool
@@ -87,6 +87,6 @@ unfoldable pub list_after : List ℕ → List ℕ → ℕ → ℕ → List ℕ �
 list_after t names call def list = laid (words_of t names call def (length list)) list
 
 -- what the answer of code means
-abbrev pub bound : Bound → Answer
-bound (Accepted flat many) = accepted (flat ∷ many ∷ [])
-bound (Refused r) = refusal r
+abbrev pub bound : Result Bound Refusal → Answer
+bound (Ok b) = accepted (b.flat ∷ b.many ∷ [])
+bound (Err r) = refusal r

@@ -1,10 +1,10 @@
 -- What private functions promise about stretches and the words so far. Only their contracts use these definitions.
-use Rattle.std.specs.Prelude.{◌≡◌, Bool, true, false, not, ◌&&◌, List, [], ℕ, ◌+◌, ◌*◌, ◌≤◌, length, eqb}
+use Rattle.std.specs.Prelude.{◌≡◌, Bool, true, false, not, ◌&&◌, List, [], ℕ, ◌+◌, ◌*◌, ◌≤◌, length, eqb, Err, Ok, Result}
+use Rattle.table.specs.declared.Refusal.{Refusal}
+use Rattle.arguments.specs.declared.CallArgs.{CallArgs}
 use Rattle.forest.specs.Forest.{record_bytes, kids_of, rest_of, forest}
 use Rattle.table.specs.Answer.{Answer, accepted, refused, refusal}
 use Rattle.table.specs.Check.{most_nodes, most_bytes, Within, stretch_of}
-use Rattle.table.specs.declared.Checked.{Checked}
-use Rattle.table.specs.declared.Checked.TheVariants.{Sound, Refused}
 use Rattle.deflist.specs.Written.{params_in}
 use Rattle.deflist.specs.Unpack.{flat_at, seen_slash, first_state}
 use Rattle.deflist.specs.declared.Kind.{Kind}
@@ -12,11 +12,7 @@ use Rattle.deflist.specs.declared.Kind.TheVariants.{Normal, NoArgs, Slash, Args,
 use Rattle.deflist.specs.declared.State.{State}
 use Rattle.parameters.specs.Params.{unpacked, list_of, params_of}
 use Rattle.parameters.specs.declared.Counted.{Counted}
-use Rattle.parameters.specs.declared.Unpacked.{Unpacked}
-use Rattle.parameters.specs.declared.Unpacked.TheVariants.{Accepted, Refused as Unfit}
 use Rattle.arguments.specs.Job.{called, call_of}
-use Rattle.arguments.specs.declared.Called.{Called}
-use Rattle.arguments.specs.declared.Called.TheVariants.{Accepted as Ordered, Refused as Disordered}
 use Rattle.bind.specs.FlatList.{FlatParam, flats_from, flats}
 use Rattle.bind.specs.Binding.{binding}
 use Rattle.bind.specs.Job.{no_words, arguments_at}
@@ -58,17 +54,17 @@ unfoldable pub flats_in : ℕ → List ℕ → ℕ → List ℕ → List FlatPar
 flats_in only names i params = flats_from (first_state (flat_at only)) (params_in names (forest i params))
 
 -- the words so far, unless a check refuses
-unfoldable pub stored : Checked → List ℕ → Answer
-stored Sound ws = accepted ws
-stored (Refused r) ws = refusal r
+unfoldable pub stored : Result (Unit {0}) Refusal → List ℕ → Answer
+stored (Ok _) ws = accepted ws
+stored (Err r) ws = refusal r
 
 -- the binding of a call and a def from some words on, and from none, unless their own rules refuse
 abbrev pub binding_at : Counted → List ℕ → List ℕ → ℕ → ℕ → List ℕ → Answer
 binding_at c t names call def ws = binding c (flats (list_of t names def)) ws (arguments_at t names call)
 
-unfoldable pub continued : Unpacked → List ℕ → List ℕ → ℕ → ℕ → Answer
-continued (Accepted c) t names call def = binding_at c t names call def (no_words c (arguments_at t names call))
-continued (Unfit r) t names call def = refusal r
+unfoldable pub continued : Result Counted Refusal → List ℕ → List ℕ → ℕ → ℕ → Answer
+continued (Ok c) t names call def = binding_at c t names call def (no_words c (arguments_at t names call))
+continued (Err r) t names call def = refusal r
 
 -- what is known of a call and a def that keep their own rules
 pub record Kept (t names : List ℕ) (call def : ℕ) (c : Counted) : Type 0 where
@@ -83,28 +79,28 @@ pub record Kept (t names : List ℕ) (call def : ℕ) (c : Counted) : Type 0 whe
 pub record Roomy (t names : List ℕ) (call def n : ℕ) : Type 0 where
   pub room : length (list_of t names def) + length (arguments_at t names call) ≤ n
 
-abbrev pub IfKept : Unpacked → List ℕ → List ℕ → ℕ → ℕ → ℕ → Type 0
-IfKept (Accepted c) t names call def n = Kept t names call def c × Roomy t names call def n
-IfKept (Unfit r) t names call def n = Unit {0}
+abbrev pub IfKept : Result Counted Refusal → List ℕ → List ℕ → ℕ → ℕ → ℕ → Type 0
+IfKept (Ok c) t names call def n = Kept t names call def c × Roomy t names call def n
+IfKept (Err r) t names call def n = Unit {0}
 
 -- an answer without its words
 abbrev pub without : Answer → Answer
 without (accepted ws) = accepted []
 without (refused n vs) = refused n vs
 
-abbrev pub is_refused : Checked → Bool
-is_refused Sound = false
-is_refused (Refused r) = true
+abbrev pub is_refused : Result (Unit {0}) Refusal → Bool
+is_refused (Ok _) = false
+is_refused (Err r) = true
 
 -- the answer of a def's list and a call together
-unfoldable pub both : Unpacked → Called → Unpacked
-both (Unfit r) k = Unfit r
-both (Accepted c) (Ordered a) = Accepted c
-both (Accepted c) (Disordered r) = Unfit r
+unfoldable pub both : Result Counted Refusal → Result CallArgs Refusal → Result Counted Refusal
+both (Err r) k = Err r
+both (Ok c) (Ok a) = Ok c
+both (Ok c) (Err r) = Err r
 
-pub record OwnRules (t names : List ℕ) (call def : ℕ) (r : Unpacked) : Type 0 where
-  pub params : Unpacked
-  pub args : Called
+pub record OwnRules (t names : List ℕ) (call def : ℕ) (r : Result Counted Refusal) : Type 0 where
+  pub params : Result Counted Refusal
+  pub args : Result CallArgs Refusal
   pub list_is : unpacked params ≡ params_of t names def most_nodes
   pub call_is : called args ≡ call_of t names call
   pub is : r ≡ both params args

@@ -6,42 +6,38 @@ ghost use Rattle.bind.specs.Reading.{continued, IfKept};
 ghost use Rattle.bind.specs.Reading.{both as both_of, OwnRules};
 
 use crate::entries;
-use arguments::Called;
-use parameters::Unpacked;
-use table::{Checked, MOST_NODES, Refusal, Wanted, numbers};
+use arguments::CallArgs;
+use parameters::Counted;
+use table::{MOST_NODES, Refusal, Wanted, numbers};
 
 // 1 to 4, 6 and 7.
-fn enter(table: &[u8], names: &[u8], call: usize, def: usize, room: usize) -> Checked
+fn enter(table: &[u8], names: &[u8], call: usize, def: usize, room: usize) -> Result<(), Refusal>
     ensures { checked result ≡ entry_of table.now names.now call def room }
 {
-    let entered = table::enter(table, names, call, Wanted::Call);
-    if let Checked::Refused(why) = entered {
-        return Checked::Refused(why);
-    }
+    table::enter(table, names, call, Wanted::Call)?;
     if !crate::is_def(table, def) {
-        return Checked::Refused(Refusal::Bare(numbers::WRONG_NODE));
+        return Err(Refusal::Bare(numbers::WRONG_NODE));
     }
     if room < entries::parameter_count(table, def) + entries::argument_count(table, call) {
-        return Checked::Refused(Refusal::Bare(numbers::SHORT_BUFFER));
+        return Err(Refusal::Bare(numbers::SHORT_BUFFER));
     }
-    Checked::Sound
+    Ok(())
 }
 
 // The counts of a def's list, unless the list or the call is refused.
-fn both(unpacked: Unpacked, called: Called) -> Unpacked
+fn both(
+    unpacked: Result<Counted, Refusal>,
+    called: Result<CallArgs, Refusal>,
+) -> Result<Counted, Refusal>
     ensures { result ≡ both_of unpacked called }
 {
-    match unpacked {
-        Unpacked::Refused(why) => Unpacked::Refused(why),
-        Unpacked::Accepted(c) => match called {
-            Called::Refused(why) => Unpacked::Refused(why),
-            Called::Accepted(_) => Unpacked::Accepted(c),
-        },
-    }
+    let counted = unpacked?;
+    called?;
+    Ok(counted)
 }
 
 // The def's own 10 to 19, then the call's own 20 to 24.
-fn own_rules(table: &[u8], names: &[u8], call: usize, def: usize) -> Unpacked
+fn own_rules(table: &[u8], names: &[u8], call: usize, def: usize) -> Result<Counted, Refusal>
     ensures { OwnRules table.now names.now call def result }
 {
     let mut space = [0u8; MOST_NODES];
@@ -51,14 +47,17 @@ fn own_rules(table: &[u8], names: &[u8], call: usize, def: usize) -> Unpacked
 }
 
 // What comes before the binding: 1 to 4, 6, 7, then the def's own 10 to 19, then the call's own 20 to 24.
-pub(crate) fn rules(table: &[u8], names: &[u8], call: usize, def: usize, room: usize) -> Unpacked
+pub(crate) fn rules(
+    table: &[u8],
+    names: &[u8],
+    call: usize,
+    def: usize,
+    room: usize,
+) -> Result<Counted, Refusal>
     ensures def_value { continued result table.now names.now call def ≡
         words_of table.now names.now call def room }
     ensures if_kept { IfKept result table.now names.now call def room }
 {
-    let entered = enter(table, names, call, def, room);
-    if let Checked::Refused(why) = entered {
-        return Unpacked::Refused(why);
-    }
+    enter(table, names, call, def, room)?;
     own_rules(table, names, call, def)
 }

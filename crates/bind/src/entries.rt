@@ -8,8 +8,8 @@ ghost use Rattle.arguments.specs.Written.{arguments_in};
 ghost use Rattle.bind.specs.Job.{arguments_at};
 ghost use Rattle.bind.specs.Reading.{behind_callee};
 
-use deflist::entry;
-use forest::RECORD;
+use deflist::Params;
+use forest::{Nodes, RECORD};
 
 // The arguments of the first call of a stretch: what follows its callee.
 pub(crate) fn behind_callee(t: &[u8]) -> &[u8]
@@ -33,14 +33,11 @@ fn written(params: &[u8]) -> usize
     ensures by_index { (names : List ℕ) (i : ℕ) → result ≡ length (params_in names (forest i params.now)) }
     ensures result_in_bounds { record_bytes * result ≤ length params.now }
 {
-    let mut left = params;
-    let mut n = 0;
-    while entry::listed(left) {
-        let e = forest::span(left);
-        left = &left[e..];
-        n += 1;
-    }
-    n
+    let nodes = Nodes {
+        at: 0,
+        left: params,
+    };
+    Params { nodes }.count()
 }
 
 // The number of arguments.
@@ -48,14 +45,7 @@ fn count(args: &[u8]) -> usize
     ensures by_index { (names : List ℕ) (i : ℕ) → result ≡ length (arguments_in names (forest i args.now)) }
     ensures result_in_bounds { record_bytes * result ≤ length args.now }
 {
-    let mut left = args;
-    let mut n = 0;
-    while RECORD <= left.len() {
-        let e = forest::span(left);
-        left = &left[e..];
-        n += 1;
-    }
-    n
+    Nodes { at: 0, left: args }.count()
 }
 
 // The number of parameters of the def at a node, marks counted.

@@ -11,16 +11,15 @@ mod words;
 ghost use Rattle.std.specs.Prelude.{◌≡◌, ◌+◌, ◌*◌, ◌≤◌, length};
 ghost use Rattle.table.specs.Answer.{checked};
 ghost use Rattle.table.specs.Check.{most_nodes};
-ghost use Rattle.parameters.specs.declared.Unpacked.TheVariants.{Accepted};
 ghost use Rattle.bind.specs.Job.{is_def, arguments_at, answered, answered_at, bind_of, laid};
 ghost use Rattle.bind.specs.Job.{list_after, bound};
 ghost use Rattle.bind.specs.Reading.{stored};
 ghost use Rattle.bind.specs.Reading.{without, is_refused, binding_at, continued, Kept, Roomy};
 
 use forest::RECORD;
-use parameters::{Counted, Unpacked};
+use parameters::Counted;
 use soundness::kinds;
-use table::{Checked, MOST_NODES, Refusal};
+use table::{MOST_NODES, Refusal};
 
 // What an argument reaches: it fills the ordinary parameter of a flat index, it joins what a star parameter collects,
 // or no parameter takes it.
@@ -33,9 +32,9 @@ pub enum Reach {
 
 // The answer of the job: the flat count and the number of arguments, or a refusal.
 #[derive(Clone, Copy)]
-pub enum Bound {
-    Accepted { flat: u32, many: u32 },
-    Refused(Refusal),
+pub struct Bound {
+    pub flat: u32,
+    pub many: u32,
 }
 
 // Room for the words of every binding: a word for each flat parameter and for each argument.
@@ -44,16 +43,23 @@ const MOST_WORDS: usize = 2 * MOST_NODES;
 // Binds the call and the def at two nodes. Returns the flat count and the number of arguments, with a word for each
 // flat parameter and for each argument at the front of the list; or a refusal: 1 to 4, 6, 7, 10 to 19, 20 to 24, 80 to
 // 84.
-pub fn bind(table: &[u8], names: &[u8], call: usize, def: usize, list: &mut [u32]) -> Bound
+pub fn bind(
+    table: &[u8],
+    names: &[u8],
+    call: usize,
+    def: usize,
+    list: &mut [u32],
+) -> Result<Bound, Refusal>
     ensures result_value { bound result ≡
         bind_of table.now names.now call def (length list.old) }
     ensures list_after { list.new ≡
         list_after table.now names.now call def list.old }
 {
     let ruled = checks::rules(table, names, call, def, list.len());
+    // no `?`: the wrong answer refused_told_as_bound is about the second arm
     match ruled {
-        Unpacked::Accepted(c) => bind_kept(table, names, call, def, c, list),
-        Unpacked::Refused(why) => Bound::Refused(why),
+        Ok(c) => bind_kept(table, names, call, def, c, list),
+        Err(why) => Err(why),
     }
 }
 
@@ -76,7 +82,7 @@ fn fill_words(
     def: usize,
     c: Counted,
     words: &mut [u32],
-) -> Checked
+) -> Result<(), Refusal>
     requires { Kept table.now names.now call def c }
     ensures { stored result words.new ≡
         binding_at c table.now names.now call def words.old }
@@ -95,12 +101,12 @@ fn fill_words(
 }
 
 // Whether a check refuses.
-fn is_refused(found: Checked) -> bool
+fn is_refused(found: Result<(), Refusal>) -> bool
     ensures { result ≡ is_refused found }
 {
     match found {
-        Checked::Sound => false,
-        Checked::Refused(_) => true,
+        Ok(()) => false,
+        Err(_) => true,
     }
 }
 
@@ -114,13 +120,13 @@ fn lay(
     c: Counted,
     words: &mut [u32],
     list: &mut [u32],
-) -> Checked
+) -> Result<(), Refusal>
     requires kept { Kept table.now names.now call def c }
     requires words_len { length words.old ≡ c.flat + length (arguments_at table.now names.now call) }
     requires words_in_bounds { length words.old ≤ length list.old }
-    ensures result_value { checked result ≡ without (continued (Accepted c) table.now names.now call def) }
+    ensures result_value { checked result ≡ without (continued (Ok c) table.now names.now call def) }
     ensures list_after { list.new ≡
-        laid (continued (Accepted c) table.now names.now call def) list.old }
+        laid (continued (Ok c) table.now names.now call def) list.old }
 {
     words::clear(words);
     let found = fill_words(table, names, call, def, c, words);
@@ -132,13 +138,11 @@ fn lay(
 }
 
 // The answer for the check of the binding.
-fn answer(found: Checked, flat: u32, many: u32) -> Bound
+fn answer(found: Result<(), Refusal>, flat: u32, many: u32) -> Result<Bound, Refusal>
     ensures { bound result ≡ answered (checked found) flat many }
 {
-    match found {
-        Checked::Sound => Bound::Accepted { flat, many },
-        Checked::Refused(why) => Bound::Refused(why),
-    }
+    found?;
+    Ok(Bound { flat, many })
 }
 
 // Binds a call and a def that keep their own rules, with `space` for the words.
@@ -150,15 +154,15 @@ fn bind_in(
     c: Counted,
     space: &mut [u32],
     list: &mut [u32],
-) -> Bound
+) -> Result<Bound, Refusal>
     requires kept { Kept table.now names.now call def c }
     requires roomy { Roomy table.now names.now call def (length list.old) }
     requires most_nodes_in_bounds { 2 * most_nodes ≤ length space.old }
     ensures result_value { bound result ≡
-        answered_at (continued (Accepted c) table.now names.now call def)
+        answered_at (continued (Ok c) table.now names.now call def)
         table.now names.now call def }
     ensures list_after { list.new ≡
-        laid (continued (Accepted c) table.now names.now call def) list.old }
+        laid (continued (Ok c) table.now names.now call def) list.old }
 {
     let many = entries::argument_count(table, call);
     let n = (c.flat as usize) + many;
@@ -174,14 +178,14 @@ fn bind_kept(
     def: usize,
     c: Counted,
     list: &mut [u32],
-) -> Bound
+) -> Result<Bound, Refusal>
     requires kept { Kept table.now names.now call def c }
     requires roomy { Roomy table.now names.now call def (length list.old) }
     ensures result_value { bound result ≡
-        answered_at (continued (Accepted c) table.now names.now call def)
+        answered_at (continued (Ok c) table.now names.now call def)
         table.now names.now call def }
     ensures list_after { list.new ≡
-        laid (continued (Accepted c) table.now names.now call def) list.old }
+        laid (continued (Ok c) table.now names.now call def) list.old }
 {
     let mut space = [0u32; MOST_WORDS];
     let words: &mut [u32] = &mut space;

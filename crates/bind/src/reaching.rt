@@ -10,10 +10,10 @@ ghost use Rattle.bind.specs.Reading.{nameable as nameable_of, flats_of};
 ghost use Rattle.bind.specs.Reading.{flats_in};
 
 use crate::Reach;
-use deflist::{Flat, Kind, State, entry, states};
+use deflist::{Flat, Kind, Params, State, entry, states};
+use forest::Nodes;
 use parameters::DefParamIndices;
 use soundness::kinds;
-use table::Place;
 
 // Whether a parameter of a kind can be called by its name, in this state.
 fn nameable(state: State, kind: Kind) -> bool
@@ -66,34 +66,36 @@ fn takes(names: &[u8], name: &[u8], t: &[u8], state: State, kind: Kind) -> bool
 }
 
 // The flat index of the parameter that can be called by this name; the first `only` are positional only.
-fn find(names: &[u8], name: &[u8], params: &[u8], only: u32) -> Place
+fn find(names: &[u8], name: &[u8], params: &[u8], only: u32) -> Option<u32>
     requires { length params.now ≤ most_bytes }
     ensures { (i : ℕ) → result ≡
         named_from 0 name.now (flats_in only names.now i params.now) }
 {
-    let mut left = params;
     let mut state = states::first_state(Flat(only as usize));
     let mut flat = 0;
-    while entry::listed(left) {
+    for (_, left) in (Params {
+        nodes: Nodes {
+            at: 0,
+            left: params,
+        },
+    }) {
         let kind = entry::kind_of(left);
         if takes(names, name, left, state, kind) {
-            return Place::At(flat);
+            return Some(flat);
         }
         flat += flats_of(kind);
         state = states::next_state(state, kind);
-        let e = forest::span(left);
-        left = &left[e..];
     }
-    Place::Nothing
+    None
 }
 
 // What a star parameter collects.
-fn collected(place: Place) -> Reach
+fn collected(place: Option<u32>) -> Reach
     ensures { result ≡ collected_of place }
 {
     match place {
-        Place::At(i) => Reach::Joins(i),
-        Place::Nothing => Reach::Nowhere,
+        Some(i) => Reach::Joins(i),
+        None => Reach::Nowhere,
     }
 }
 
@@ -109,12 +111,12 @@ fn by_place(d: DefParamIndices, k: u32) -> Reach
 }
 
 // What a named argument reaches, by the parameter that is called so.
-fn by_name(found: Place, kwargs: Place) -> Reach
+fn by_name(found: Option<u32>, kwargs: Option<u32>) -> Reach
     ensures { result ≡ by_name found kwargs }
 {
     match found {
-        Place::At(i) => Reach::Fills(i),
-        Place::Nothing => collected(kwargs),
+        Some(i) => Reach::Fills(i),
+        None => collected(kwargs),
     }
 }
 

@@ -14,11 +14,11 @@ ghost use Rattle.bind.specs.Reading.{flats_in, stored};
 ghost use Rattle.bind.specs.declared.Reach.TheVariants.{Fills};
 
 use crate::{Reach, reaching, words};
-use deflist::{Kind, entry};
-use forest::RECORD;
+use deflist::{Kind, Params, entry};
+use forest::Nodes;
 use parameters::{Counted, DefParamIndices};
 use soundness::kinds;
-use table::{Checked, numbers};
+use table::{Refusal, numbers};
 
 // Whether the first argument of a stretch is a star or a `**`.
 fn is_star(t: &[u8]) -> bool
@@ -33,22 +33,20 @@ fn is_star(t: &[u8]) -> bool
 }
 
 // 80 (a star or `**` argument); `first` is the node of the first argument.
-fn first_star(args: &[u8], first: usize) -> Checked
+fn first_star(args: &[u8], first: usize) -> Result<(), Refusal>
     requires { Behind first args.now }
     ensures { (names : List ℕ) → checked result ≡
         star_check (arguments_in names (forest first args.now)) }
 {
-    let mut left = args;
-    let mut at = first;
-    while RECORD <= left.len() {
+    for (at, left) in (Nodes {
+        at: first,
+        left: args,
+    }) {
         if is_star(left) {
-            return Checked::Refused(table::refused_at(numbers::STAR_ARGUMENT, at as u32, left));
+            return Err(table::refused_at(numbers::STAR_ARGUMENT, at as u32, left));
         }
-        let e = forest::span(left);
-        at += e / RECORD;
-        left = &left[e..];
     }
-    Checked::Sound
+    Ok(())
 }
 
 // The number of an argument that reaches no parameter.
@@ -64,21 +62,21 @@ fn unreached(t: &[u8]) -> u32
 }
 
 // An argument fills an ordinary parameter: 83 if the parameter is filled, else writes both words.
-fn filling(i: u32, at: u32, t: &[u8], place: usize, words: &mut [u32]) -> Checked
+fn filling(i: u32, at: u32, t: &[u8], place: usize, words: &mut [u32]) -> Result<(), Refusal>
     ensures { stored result words.new ≡
         turn_of place (Fills i) (kind_at (node_of 0 t.now).kind) (node_of at t.now)
         words.old }
 {
     if 0 < words::word(words, i as usize) {
-        return Checked::Refused(table::refused_at(numbers::ALREADY_FILLED, at, t));
+        return Err(table::refused_at(numbers::ALREADY_FILLED, at, t));
     }
     words::store(words, i as usize, at);
     words::store(words, place, i);
-    Checked::Sound
+    Ok(())
 }
 
 // The turn of the first argument of a stretch, whose own word is at `place`: 81, 82, 83, or writes its words.
-fn turn(reach: Reach, at: u32, t: &[u8], place: usize, words: &mut [u32]) -> Checked
+fn turn(reach: Reach, at: u32, t: &[u8], place: usize, words: &mut [u32]) -> Result<(), Refusal>
     ensures { stored result words.new ≡
         turn_of place reach (kind_at (node_of 0 t.now).kind) (node_of at t.now)
         words.old }
@@ -87,14 +85,14 @@ fn turn(reach: Reach, at: u32, t: &[u8], place: usize, words: &mut [u32]) -> Che
         Reach::Fills(i) => filling(i, at, t, place, words),
         Reach::Joins(i) => {
             words::store(words, place, i);
-            Checked::Sound
+            Ok(())
         }
-        Reach::Nowhere => Checked::Refused(table::refused_at(unreached(t), at, t)),
+        Reach::Nowhere => Err(table::refused_at(unreached(t), at, t)),
     }
 }
 
 // The arguments in turn, the first of which is the node `first`; `flat` is the flat count: 81, 82, 83, or writes their
-// words.
+// words. The count of the arguments is a u32, as the words are: the index of `enumerate` would be cast at each turn.
 fn along(
     names: &[u8],
     params: &[u8],
@@ -103,27 +101,22 @@ fn along(
     flat: u32,
     d: DefParamIndices,
     words: &mut [u32],
-) -> Checked
+) -> Result<(), Refusal>
     requires { Behind first args.now × (length params.now ≤ most_bytes) }
     ensures { (i : ℕ) → stored result words.new ≡
         along_of flat d (flats_in d.num_positional_only names.now i params.now) 0
         words.old (arguments_in names.now (forest first args.now)) }
 {
-    let mut left = args;
-    let mut at = first;
     let mut k = 0;
-    while RECORD <= left.len() {
+    for (at, left) in (Nodes {
+        at: first,
+        left: args,
+    }) {
         let r = reaching::reaches(names, params, d, k, left);
-        let judged = turn(r, at as u32, left, (flat as usize) + (k as usize), words);
-        if let Checked::Refused(why) = judged {
-            return Checked::Refused(why);
-        }
-        let e = forest::span(left);
-        at += e / RECORD;
-        left = &left[e..];
+        turn(r, at as u32, left, (flat as usize) + (k as usize), words)?;
         k += 1;
     }
-    Checked::Sound
+    Ok(())
 }
 
 // Whether a parameter of a kind must not stay empty, and its word says that it is empty.
@@ -140,35 +133,33 @@ fn is_empty(kind: Kind, w: u32) -> bool
 }
 
 // 84 (an ordinary parameter left empty); `first` is the node of the first parameter.
-fn first_empty(params: &[u8], first: usize, words: &[u32]) -> Checked
+fn first_empty(params: &[u8], first: usize, words: &[u32]) -> Result<(), Refusal>
     requires { Behind first params.now }
     ensures { (names : List ℕ) (s : StateType) → checked result ≡
         empty_check 0 (flats_from s (params_in names (forest first params.now))) words.now }
 {
-    let mut left = params;
-    let mut at = first;
     let mut flat = 0;
-    while entry::listed(left) {
+    for (at, left) in (Params {
+        nodes: Nodes {
+            at: first,
+            left: params,
+        },
+    }) {
         let kind = entry::kind_of(left);
         if is_empty(kind, words::word(words, flat as usize)) {
-            return Checked::Refused(table::refused_at(numbers::EMPTY_PARAMETER, at as u32, left));
+            return Err(table::refused_at(numbers::EMPTY_PARAMETER, at as u32, left));
         }
         flat += reaching::flats_of(kind);
-        let e = forest::span(left);
-        at += e / RECORD;
-        left = &left[e..];
     }
-    Checked::Sound
+    Ok(())
 }
 
 // The first of two checks that refuses.
-fn first_of(a: Checked, b: Checked) -> Checked
+fn first_of(a: Result<(), Refusal>, b: Result<(), Refusal>) -> Result<(), Refusal>
     ensures { checked result ≡ and_then (checked a) (λ _. checked b) }
 {
-    match a {
-        Checked::Sound => b,
-        Checked::Refused(why) => Checked::Refused(why),
-    }
+    a?;
+    b
 }
 
 // 80, then 81 to 83, then 84, or writes all words; `param` and `first` are the nodes of the first parameter and
@@ -181,7 +172,7 @@ pub(crate) fn fill(
     first: usize,
     c: Counted,
     words: &mut [u32],
-) -> Checked
+) -> Result<(), Refusal>
     requires { Behind first args.now × Behind param params.now × (1 ≤ param) }
     ensures { stored result words.new ≡
         binding c (flats_in c.indices.num_positional_only names.now param params.now)

@@ -25,12 +25,7 @@ pub(crate) fn store(words: &mut [u32], i: usize, value: u32)
 pub(crate) fn clear(words: &mut [u32])
     ensures { words.new ≡ replicate (length words.old) 0 }
 {
-    let n = words.len();
-    let mut i = 0;
-    while i < n {
-        words[i] = 0;
-        i += 1;
-    }
+    words.fill(0);
 }
 
 // Writes words at the front of a list.
@@ -39,9 +34,5 @@ pub(crate) fn write(words: &[u32], list: &mut [u32])
     ensures { list.new ≡ words.now ++ drop (length words.now) list.old }
 {
     let many = words.len();
-    let mut i = 0;
-    while i < many {
-        list[i] = words[i];
-        i += 1;
-    }
+    list[0..many].copy_from_slice(words);
 }

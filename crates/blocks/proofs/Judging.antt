@@ -2,14 +2,15 @@
 -- invariant (`Padding`) says that the padding is zero if the total so far and all bytes from place p on are, so at byte
 -- 508 the total decides (`pad_end`). `examine` tests 72, 71 and 73 in the order of the definition, so each law rewrites
 -- by the tests that came before (`examine_check` to `examine_passed`). `judge` adds the test of the length
--- (`judge_short`, `judge_long`). No induction. Assumes nothing.
+-- (`judge_short`, `judge_long`). `zeros_all` is by induction on the bytes. Assumes nothing.
 use mathlib.Core.Path.{◌≡◌, refl, sym, ap, ◌∙◌}
 use mathlib.Core.Bool.{Bool, true, false, ◌&&◌, and-true}
-use mathlib.Core.List.{List, []}
+use mathlib.Core.List.{List, [], ◌∷◌}
 use Prim.Native.Nat.{ℕ, zero, suc, ◌+◌, ◌*◌, ◌<◌, ◌≤◌, ◌^◌}
 use native.Mathlib.Nat.{zero-add}
 use native.Mathlib.Numerals.{add-one}
 use native.Mathlib.Omega.{arith}
+use Rattle.std.specs.List.{list_all}
 use lib.ListN.{length, get_or, take, drop, length-take, drop_of_length-le}
 use lib.Seq.{drop-cons, get_or-take, length-take-le}
 use lib.Dec.{eqb}
@@ -19,6 +20,12 @@ use Rattle.fields.proofs.Spelling.{Bytes}
 use Rattle.table.specs.Numbers.{block_short, block_number, block_check, block_used}
 use Rattle.table.specs.Answer.{Answer, accepted, refused}
 use Rattle.blocks.specs.Block.{sum_of, zeros, demand, examine, judge}
+
+-- all bytes are zero if each of them is
+pub zeros_all : (l : List ℕ) → zeros l ≡ list_all (λ x. eqb x 0) l
+unfolding zeros
+zeros_all [] = refl
+zeros_all (x ∷ l) = rw (zeros_all l) refl
 
 -- the invariant of `padded`: the total so far and the bytes from place p on decide
 pub record Padding (b : List ℕ) (from total p : ℕ) : Type 0 where

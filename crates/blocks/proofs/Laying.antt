@@ -1,17 +1,16 @@
--- Laws of bytes that are written over part of a buffer. The loop stores one byte a turn: after i turns the buffer is
--- the old one with the first i bytes pasted over it (`Putting`), and at the end with all of them (`put_end`). Bytes
--- that fit are written by `over` (`laid_fits`), bytes that do not fit change nothing (`laid_away`), and the length
--- stays the same in both cases (`length_laid`). `put_away`, `put_room` and `put_whole` are the laws of `put`. Assumes
--- nothing.
+-- Laws of bytes that are written over part of a buffer. A part that is replaced by as many bytes is `over`
+-- (`put_over`). Bytes that fit are written by `over` (`laid_fits`), bytes that do not fit change nothing (`laid_away`),
+-- and the length stays the same in both cases (`length_laid`). `put_away`, `put_room` and `put_whole` are the laws of
+-- `put`. Assumes nothing.
 use mathlib.Core.Path.{◌≡◌, refl, sym, ap, ◌∙◌}
 use mathlib.Core.Bool.{Bool, true, false}
 use mathlib.Core.Logic.{⊎_elim}
-use mathlib.Core.List.{List, [], ◌++◌, append_assoc, append-nil}
+use mathlib.Core.List.{List, ◌++◌}
 use Prim.Native.Nat.{ℕ, ◌+◌, ◌-◌, ◌<◌, ◌≤◌}
-use native.Mathlib.Numerals.{add-one}
 use native.Mathlib.Omega.{arith}
-use lib.ListN.{length, get_or, take, drop, set, replicate, length-replicate, drop_of_length-le}
-use lib.Seq.{paste, paste-zero, paste-suc, length-paste, take-length, length-take-le}
+use borrow.Rule.Slice.PartMut.{post_of}
+use lib.ListN.{length, take, drop}
+use lib.Seq.{drop-drop, length-take-le}
 use lib.Dec.{leb}
 use borrow.Author.Tests.{le-leb, lt-leb, leb-true}
 use Rattle.fields.specs.Over.{over}
@@ -19,33 +18,12 @@ use Rattle.fields.proofs.Basics.{le_or_lt}
 use Rattle.fields.proofs.Over.{length_over, over_front}
 use Rattle.blocks.specs.Laid.{laid_at}
 
--- out has the first i of the bytes from place `at` on; every other byte is that of d
-pub record Putting (d bytes : List ℕ) (at : ℕ) (out : List ℕ) (i : ℕ) : Type 0 where
-  pub upto : i ≤ length bytes
-  pub room : at + length bytes ≤ length d
-  pub is : out ≡ paste d at bytes i
-
-pub put_start : (d bytes : List ℕ) (at : ℕ) → at + length bytes ≤ length d → Putting d bytes at d 0
-put_start d bytes at h = record { upto = omega arith; room = h; is = paste-zero d at bytes }
-
-module _ {d bytes : List ℕ} {at : ℕ} {out : List ℕ} {i : ℕ} (s : Putting d bytes at out i) where
-  pub put_long : length out ≡ length d
-  put_long = ap length s.is
-      ∙ length-paste d at bytes i (omega (arith, s.upto, s.room)) s.upto
-
-  pub put_on : i < length bytes → {x : ℕ} → x ≡ get_or bytes i 0 → Putting d bytes at (set out (at + i) x) (i + 1)
-  put_on h x-is = record {
-    upto = omega arith;
-    room = s.room;
-    is = rw (s.is, x-is, add-one i) (paste-suc d at bytes i 0 (omega (arith, s.room)) h);
-  }
-
-  pub put_end : length bytes ≤ i → out ≡ over at bytes d
-  unfolding over
-  put_end h =
-      let e : i ≡ length bytes = omega (arith, s.upto) in
-      let is : out ≡ paste d at bytes (length bytes) = rw e at s.is in
-      is ∙ rw (take-length bytes) (append_assoc (take at d) bytes (drop (at + length bytes) d))
+-- a part of a buffer that is replaced by as many bytes
+pub put_over : (at : ℕ) (bytes d : List ℕ) {new : List ℕ} → new ≡ bytes
+    → take at d ++ (new ++ post_of at (at + length bytes - at) d) ≡ over at bytes d
+unfolding over
+put_over at bytes d is = let all : at + length bytes - at ≡ length bytes = omega arith in
+    rw (is, all, drop-drop (length bytes) at d) refl
 
 module _ (at : ℕ) (bs d : List ℕ) where
   pub laid_fits : at + length bs ≤ length d → laid_at at bs d ≡ over at bs d
@@ -73,17 +51,6 @@ laid_part from out {len} (there, room) is =
     let all : len - 0 ≡ len = omega arith in
     let long : length (take len from) ≡ len = length-take-le len from there in
     (rw all at is) ∙ laid_front (take len from) out (omega arith) ∙ rw long refl
-
--- LAW: a whole block, written over 512 zero bytes
-pub block_copied : (bs : List ℕ) {b : List ℕ} → 512 ≤ length bs → b ≡ laid_at 0 (take 512 bs) (replicate 512 0)
-    → b ≡ take 512 bs
-block_copied bs h is =
-    let zeros : List ℕ = replicate 512 0 in
-    let all : length zeros ≡ 512 = length-replicate {A = ℕ} 512 0 in
-    let long : length (take 512 bs) ≡ 512 = length-take-le 512 bs h in
-    let none : drop (length (take 512 bs)) zeros ≡ [] =
-    drop_of_length-le zeros {i = length (take 512 bs)} (omega arith) in
-    is ∙ laid_front (take 512 bs) zeros (omega arith) ∙ rw none (append-nil (take 512 bs))
 
 -- the test for room, as the code computes it
 pub fits_not : (at n room : ℕ) → room < at → false ≡ leb (at + n) room

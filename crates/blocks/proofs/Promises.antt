@@ -1,33 +1,33 @@
 -- Each public function has one answer: two answers that meet its promise are equal, and so are the buffers at exit.
 -- For most functions the promise is an equation, so `coincide` suffices. `judge` and `judge_run` promise what their
--- answer means; no two values of `Judged` have the same meaning (`judged_injective`), so `coincide_by` applies.
+-- answer means; no two answers have the same meaning (`judged_injective`), so `coincide_by` applies.
 -- Assumes nothing.
+use Rattle.std.specs.Prelude.{Err, Ok, Result, ℕ}
 use mathlib.Core.Path.{◌≡◌, refl}
 use mathlib.Core.List.{List, ◌++◌}
 use Prim.Native.Nat.{ℕ, min}
 use Rattle.fields.specs.Field.{bytes_of}
 use Rattle.fields.proofs.Basics.{never}
 use Rattle.fields.proofs.Coincide.{coincide, coincide_by}
-use Rattle.blocks.specs.declared.Judged.{Judged}
-use Rattle.blocks.specs.declared.Judged.TheVariants.{Passed, Refused}
 use Rattle.blocks.specs.Block.{content_bytes, weight_of, sum_of, judge, judged}
 use Rattle.blocks.specs.Laid.{laid_at, low_byte}
 use Rattle.blocks.specs.Run.{blocks_for, judge_run, content_in}
 
 -- no two judgements mean the same
-pub judged_injective : (r s : Judged) → judged r ≡ judged s → r ≡ s
-judged_injective Passed Passed e = refl
-judged_injective Passed (Refused n) e = never (cc)
-judged_injective (Refused m) Passed e = never (cc)
-judged_injective (Refused m) (Refused n) e = cc
+pub judged_injective : (r s : Result (Unit {0}) ℕ) → judged r ≡ judged s → r ≡ s
+judged_injective (Ok _) (Ok _) e = refl
+judged_injective (Ok _) (Err n) e = never (cc)
+judged_injective (Err m) (Ok _) e = never (cc)
+judged_injective (Err m) (Err n) e = cc
 
 -- of `judge`, the bytes as lent
-pub judge_one : (bytes : List ℕ) (number used : ℕ) {r s : Judged} → judged r ≡ judge number used bytes
+pub judge_one : (bytes : List ℕ) (number used : ℕ) {r s : Result (Unit {0}) ℕ} → judged r ≡ judge number used bytes
     → judged s ≡ judge number used bytes → r ≡ s
 judge_one bytes number used = coincide_by judged judged_injective
 
 -- of `judge_run`, the bytes as lent
-pub judge_run_one : (bytes : List ℕ) (first total : ℕ) {r s : Judged} → judged r ≡ judge_run first total bytes
+pub judge_run_one : (bytes : List ℕ) (first total : ℕ) {r s : Result (Unit {0}) ℕ}
+    → judged r ≡ judge_run first total bytes
     → judged s ≡ judge_run first total bytes → r ≡ s
 judge_run_one bytes first total = coincide_by judged judged_injective
 

@@ -4,10 +4,11 @@
 -- (`run_passes`) and holds that content (`run_holds`), and one changed byte makes it 72 (`changed_run`). The loop of
 -- `judge_run` keeps that judging the remaining blocks gives the whole answer (`Running`). `content_none` to
 -- `content_whole` are the four returns of `content`. Assumes nothing.
+use Rattle.std.specs.Prelude.{Err, Ok, Result, ℕ}
 use mathlib.Core.Path.{◌≡◌, refl, sym, ap, ◌∙◌}
 use mathlib.Core.Logic.{⊎_elim}
 use mathlib.Core.List.{List, [], ◌∷◌, ◌++◌, append_assoc, append-nil}
-use Prim.Native.Nat.{ℕ, zero, suc, ◌+◌, ◌*◌, ◌-◌, ◌/◌, ◌<◌, ◌≤◌, min}
+use Prim.Native.Nat.{ℕ, zero, suc, ◌+◌, ◌*◌, ◌-◌, ◌/◌, ◌<◌, ◌≤◌, ◌^◌, min}
 use native.Mathlib.Omega.{arith}
 use lib.ListN.{length, get_or, take, drop, set, replicate, length-append, length-take, length-drop, take-append-drop}
 use lib.ListN.{drop_of_length-le}
@@ -18,8 +19,6 @@ use Rattle.fields.proofs.Fields.{tail_part}
 use Rattle.table.specs.Numbers.{block_check}
 use Rattle.table.specs.Answer.{Answer, accepted, refused, and_then}
 use Rattle.table.proofs.Answers.{after_both}
-use Rattle.blocks.specs.declared.Judged.{Judged}
-use Rattle.blocks.specs.declared.Judged.TheVariants.{Passed, Refused}
 use Rattle.blocks.specs.Block.{block_of, judge, judged}
 use Rattle.blocks.specs.Run.{blocks_for, blocks_of, run_of, judge_blocks, judge_run, contents, content_in}
 use Rattle.blocks.specs.Run.{content_of}
@@ -51,38 +50,58 @@ pub run_none : (number : ℕ) (bs : List ℕ) → judge_run number 0 bs ≡ acce
 unfolding judge_run judge_blocks blocks_for
 run_none number bs = refl
 
--- the invariant of `judge_run`: judging the remaining blocks gives the whole answer
+-- the invariant of `judge_run`: judging the remaining blocks gives the whole answer, and they are those that are left
 pub record Running (bs : List ℕ) (first total : ℕ) (left : List ℕ) (number more : ℕ) : Type 0 where
-  pub room : 512 * number + length left ≤ 512 * first + length bs
   pub same : judge_run number more left ≡ judge_run first total bs
+  pub count : number + blocks_for more ≡ first + blocks_for total
 
 pub running_start : (bs : List ℕ) (first total : ℕ) → Running bs first total bs first total
-running_start bs first total = record { room = omega arith; same = refl }
+running_start bs first total = record { same = refl; count = refl }
+
+-- the number after the last block fits
+pub blocks_few : (first total : ℕ) {n : ℕ} → n ≡ blocks_for total → first < 65536 → total < 2 ^ 64
+    → first + n < 2 ^ 64
+unfolding blocks_for
+blocks_few first total n_is f t = omega arith
+
+-- bytes need blocks, and no bytes need none
+pub some_more : (more : ℕ) → 0 < blocks_for more → 0 < more
+unfolding blocks_for
+some_more more h = omega arith
+
+pub none_more : (more : ℕ) → blocks_for more ≡ 0 → more ≡ 0
+unfolding blocks_for
+none_more more h = omega arith
 
 module _ {bs : List ℕ} {first total : ℕ} {left : List ℕ} {number more : ℕ}
-    (s : Running bs first total left number more) where
-  pub running_end : more ≤ 0 → accepted [] ≡ judge_run first total bs
-  running_end h = let e : more ≡ 0 = omega arith in sym (run_none number left) ∙ (rw e at s.same)
+    (s : Running bs first total left number more) {n : ℕ} (n_is : n ≡ blocks_for total) where
+  pub running_end : first + n ≤ number → accepted [] ≡ judge_run first total bs
+  running_end h =
+      let e : more ≡ 0 = none_more more (omega (arith, s.count)) in
+      sym (run_none number left) ∙ (rw e at s.same)
 
-  module _ (h : 0 < more) {used : ℕ} (used-is : used ≡ min 504 more) (j : Judged)
+  module _ (h : number < first + n) {used : ℕ} (used-is : used ≡ min 504 more) (j : Result (Unit {0}) ℕ)
       (j-is : judged j ≡ judge number used left) where
-    here : and_then (judged j) (λ _. judge_run (number + 1) (more - 504) (drop 512 left)) ≡ judge_run first total bs
-    here = rw (j-is, used-is) (sym (run_more number more left h) ∙ s.same)
+    some : 0 < more
+    some = some_more more (omega (arith, s.count))
 
-    pub running_stop : {n : ℕ} → j ≡ Refused n → refused n [] ≡ judge_run first total bs
+    here : and_then (judged j) (λ _. judge_run (number + 1) (more - 504) (drop 512 left)) ≡ judge_run first total bs
+    here = rw (j-is, used-is) (sym (run_more number more left some) ∙ s.same)
+
+    pub running_stop : {why : ℕ} → j ≡ Err why → refused why [] ≡ judge_run first total bs
     running_stop e = rw e at here
 
-    pub running_long : j ≡ Passed → 512 ≤ length left
+    pub running_long : j ≡ Ok tt → 512 ≤ length left
     running_long e = (passing number used left (sym (rw e at j-is))).long
 
-    pub running_on : j ≡ Passed → Running bs first total (take (length left - 512) (drop 512 left)) (number + 1)
+    pub running_on : j ≡ Ok tt → Running bs first total (take (length left - 512) (drop 512 left)) (number + 1)
         (more - used)
-    running_on e = record {
-      room = simp (length-take, length-drop) (omega (arith, s.room, running_long e));
-      same =
-          let m : more - used ≡ more - 504 = omega arith in
-          rw (tail_part 512 left, m) (rw e at here);
-    }
+    running_on e =
+        let m : more - used ≡ more - 504 = omega arith in
+        record {
+          same = rw (tail_part 512 left, m) (rw e at here);
+          count = rw m (omega (arith, s.count, blocks_more more some));
+        }
 
 -- n blocks have 512 bytes each, whatever the content
 pub length_blocks : (n number : ℕ) (content : List ℕ) → length (blocks_of n number content) ≡ 512 * n

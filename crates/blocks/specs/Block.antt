@@ -1,12 +1,10 @@
 -- Blocks of 512 bytes, little-endian (docs/FORMAT.md, a table file): bytes 0-1 the number, 2-3 the number of used
 -- bytes, 4-507 the content, 508-511 the sum. These are definitions.
-use Rattle.std.specs.Prelude.{Bool, true, ◌&&◌, List, [], ◌∷◌, ◌++◌, ℕ, zero, suc, ◌+◌, ◌*◌, ◌-◌, length, get_or, take, drop, replicate, eqb, leb}
+use Rattle.std.specs.Prelude.{Bool, true, ◌&&◌, List, [], ◌∷◌, ◌++◌, ℕ, zero, suc, ◌+◌, ◌*◌, ◌-◌, length, get_or, take, drop, replicate, eqb, leb, Err, Ok, Result}
 use Rattle.fields.specs.Choice.{if'}
 use Rattle.fields.specs.Field.{field, bytes_of}
 use Rattle.table.specs.Numbers.{block_short, block_number, block_check, block_used}
 use Rattle.table.specs.Answer.{Answer, accepted, refused, and_then}
-use Rattle.blocks.specs.declared.Judged.{Judged}
-use Rattle.blocks.specs.declared.Judged.TheVariants.{Passed, Refused}
 
 -- the size of a block, and that of its content
 abbrev pub block_bytes : ℕ
@@ -61,6 +59,6 @@ judge number used bs = and_then (demand (leb block_bytes (length bs)) block_shor
     (λ _. examine number used (take block_bytes bs))
 
 -- the meaning of the code's answers
-abbrev pub judged : Judged → Answer
-judged Passed = accepted []
-judged (Refused n) = refused n []
+abbrev pub judged : Result (Unit {0}) ℕ → Answer
+judged (Ok _) = accepted []
+judged (Err n) = refused n []

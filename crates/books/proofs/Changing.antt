@@ -20,6 +20,8 @@ use Rattle.fields.proofs.Basics.{never, clash, le_or_lt, and_left, and_right}
 use Rattle.fields.proofs.Spelling.{length_bytes}
 use Rattle.dialect.specs.Bytes.{valid_bytes}
 use Rattle.dialect.proofs.Laws.{valid_length}
+use Rattle.std.specs.List.{list_all}
+use Rattle.blocks.proofs.Judging.{zeros_all}
 use Rattle.blocks.specs.Block.{zeros, sum_of}
 use Rattle.books.specs.declared.Changed.{Changed}
 use Rattle.books.specs.declared.Changed.TheVariants.{Placed, Refused, Bare}
@@ -97,7 +99,10 @@ first_on zero p false e = refl
 first_on (suc a) p t e = refl
 
 module _ (book : List ℕ) {n p : ℕ} (h : p < n) {e : List ℕ} (e-is : e ≡ entry_at book p) {t : Bool} where
-  module _ {first : ℕ} (s : Finding (empty_at book) n first p) (t-is : t ≡ zeros e) where
+  module _ {first : ℕ} (s : Finding (empty_at book) n first p) (t_is : t ≡ list_all (λ x. eqb x 0) e) where
+    t-is : t ≡ zeros e
+    t-is = t_is ∙ sym (zeros_all e)
+
     pub empty_hit : (t && eqb first 0) ≡ true → Finding (empty_at book) n (p + 1) (p + 1)
     unfolding first_in empty_at
     empty_hit f =

@@ -3,6 +3,7 @@
 -- known (`Best`). Each turn is then one step of `every`, `some` or `best_in`, and the last turn gives the definition's
 -- value. `book_length` to `judge_passed` are the tests of one book in their order, `look_zone` to `look_nothing`
 -- those of a lookup in both books. No induction is needed beyond these loops. Assumes nothing.
+use Rattle.std.specs.Prelude.{Err, Ok, Result, ℕ}
 use mathlib.Core.Path.{◌≡◌, refl, sym, ap, ◌∙◌}
 use mathlib.Core.Bool.{Bool, true, false, ◌&&◌, ◌||◌, not, and-false, or-true}
 use mathlib.Core.Logic.{⊎_elim}
@@ -10,15 +11,14 @@ use mathlib.Core.List.{List}
 use Prim.Native.Nat.{ℕ, zero, suc, ◌+◌, ◌*◌, ◌-◌, ◌/◌, ◌<◌, ◌≤◌}
 use native.Mathlib.Numerals.{add-one}
 use native.Mathlib.Omega.{arith}
-use lib.ListN.{length, get_or, take, drop, drop_of_length-le}
-use lib.Seq.{drop-cons, take_all, take-nil}
+use lib.ListN.{length, take, drop, drop_of_length-le}
+use Rattle.std.specs.List.{list_all}
+use Rattle.blocks.proofs.Judging.{zeros_all}
+use lib.Seq.{take_all, take-nil}
 use lib.Dec.{eqb, leb, ltb}
-use borrow.Author.Tests.{eq-eqb, ne_eqb}
 use Rattle.fields.proofs.Basics.{le_or_lt}
 use Rattle.fields.proofs.Fields.{tail_part}
-use Rattle.blocks.specs.declared.Judged.{Judged}
-use Rattle.blocks.specs.declared.Judged.TheVariants.{Passed, Refused as Away}
-use Rattle.blocks.specs.Block.{zeros, judged}
+use Rattle.blocks.specs.Block.{judged}
 use Rattle.blocks.specs.Run.{judge_run}
 use Rattle.dialect.specs.Bytes.{valid_bytes}
 use Rattle.books.specs.Book.{every, some, places_of, place_at, entry_at, setting_of, belongs}
@@ -35,28 +35,6 @@ belongs_line zone e = rw e refl
 
 pub belongs_zone : (zone : ℕ) {line : Bool} → line ≡ false → not (eqb zone 0) ≡ belongs line zone
 belongs_zone zone e = rw e refl
-
--- the invariant of `empty`: the bytes from p on decide
-pub record Zeroing (b : List ℕ) (p : ℕ) : Type 0 where
-  pub left : zeros (drop p b) ≡ zeros b
-
-pub zero_start : (b : List ℕ) → Zeroing b 0
-zero_start b = record { left = refl }
-
-module _ {b : List ℕ} {p : ℕ} (s : Zeroing b p) where
-  step : p < length b → zeros (drop p b) ≡ (eqb (get_or b p 0) 0 && zeros (drop (p + 1) b))
-  unfolding zeros
-  step h = rw (drop-cons b p 0 h, add-one p) refl
-
-  pub zero_stop : p < length b → (get_or b p 0 ≡ 0 → ⊥) → false ≡ zeros b
-  zero_stop h e = sym (step h ∙ rw (ne_eqb (get_or b p 0) 0 e) refl) ∙ s.left
-
-  pub zero_on : p < length b → get_or b p 0 ≡ 0 → Zeroing b (p + 1)
-  zero_on h e = record { left = sym (step h ∙ rw (eq-eqb (get_or b p 0) 0 e) refl) ∙ s.left }
-
-  pub zero_end : length b ≤ p → true ≡ zeros b
-  unfolding zeros
-  zero_end h = rw (drop_of_length-le b {i = p} h) at s.left
 
 -- the returns of `piece`: no bytes, fewer than n, n
 module _ (b : List ℕ) (at n : ℕ) where
@@ -77,35 +55,36 @@ unfolding entry_at
 entry_is b p = let e : place_at p + 24 - place_at p ≡ 24 = omega arith in rw e refl
 
 -- the blocks of a book
-module _ (b : List ℕ) (j : Judged) (j-is : judged j ≡ judge_run 0 (504 * (length b / 512)) b) where
-  pub blocks_passed : j ≡ Passed → true ≡ sound_blocks b
+module _ (b : List ℕ) (j : Result (Unit {0}) ℕ) (j-is : judged j ≡ judge_run 0 (504 * (length b / 512)) b) where
+  pub blocks_passed : j ≡ Ok tt → true ≡ sound_blocks b
   blocks_passed e = rw (← j-is, e) refl
 
-  pub blocks_refused : {n : ℕ} → j ≡ Away n → false ≡ sound_blocks b
+  pub blocks_refused : {n : ℕ} → j ≡ Err n → false ≡ sound_blocks b
   blocks_refused e = rw (← j-is, e) refl
 
 -- tests of an entry
 module _ (e : List ℕ) {o w : ℕ} (o_is : o ≡ field 2 e 0) (w-is : w ≡ field 4 e 2) where
   pub sound_entry_is : (line : Bool) {six fifteen : List ℕ} {v z h : Bool} → six ≡ take 9 (drop 6 e)
       → v ≡ valid_bytes six
-      → fifteen ≡ take 9 (drop 15 e) → z ≡ zeros fifteen → h ≡ belongs line o
+      → fifteen ≡ take 9 (drop 15 e) → z ≡ list_all (λ x. eqb x 0) fifteen → h ≡ belongs line o
       → (leb 1 w && (v && (z && h))) ≡ sound_entry line e
   unfolding sound_entry
-  sound_entry_is line a v-is b z-is h-is = rw (v-is, a, z-is, b, h-is, o_is, w-is) refl
+  sound_entry_is line {fifteen = fifteen} a v-is b z-is h-is =
+      rw (v-is, a, z-is, ← zeros_all fifteen, b, h-is, o_is, w-is) refl
 
-  module _ (zone setting : ℕ) {x : Bool} (x-is : x ≡ zeros e) where
+  module _ (zone setting : ℕ) {x : Bool} (x-is : x ≡ list_all (λ y. eqb y 0) e) where
     pub is_for_is : (not x && (eqb o zone && eqb w setting)) ≡ is_for zone setting e
     unfolding is_for
-    is_for_is = rw (x-is, o_is, w-is) refl
+    is_for_is = rw (x-is, ← zeros_all e, o_is, w-is) refl
 
     pub fits_is : (not x && (eqb o zone && leb w setting)) ≡ fits zone setting e
     unfolding fits
-    fits_is = rw (x-is, o_is, w-is) refl
+    fits_is = rw (x-is, ← zeros_all e, o_is, w-is) refl
 
-pub sound_place_is : (line : Bool) (e : List ℕ) {x y : Bool} → x ≡ zeros e → y ≡ sound_entry line e
+pub sound_place_is : (line : Bool) (e : List ℕ) {x y : Bool} → x ≡ list_all (λ z. eqb z 0) e → y ≡ sound_entry line e
     → (x || y) ≡ sound_place line e
 unfolding sound_place
-sound_place_is line e x-is y-is = rw (x-is, y-is) refl
+sound_place_is line e x-is y-is = rw (x-is, ← zeros_all e, y-is) refl
 
 -- a place that fails a test, and one that passes it
 pub every_stop : (test : ℕ → Bool) (n p : ℕ) → p < n → test p ≡ false → every test n ≡ false

@@ -21,6 +21,8 @@ use Rattle.fields.proofs.Spelling.{Bytes, bytes_take, bytes_drop, bytes_field}
 use Rattle.forest.specs.Marks.{noted, may_stand}
 use Rattle.forest.proofs.Named.{same_bytes_refl}
 use Rattle.forest.proofs.Marked.{not_noted}
+use Rattle.std.specs.List.{list_all}
+use Rattle.blocks.proofs.Judging.{zeros_all}
 use Rattle.blocks.specs.Block.{zeros}
 use Rattle.books.specs.Book.{some, places_of, place_at, entry_at, zone_of, setting_of, is_for, seen_in, seen_before}
 use Rattle.books.specs.Book.{again}
@@ -29,7 +31,10 @@ use Rattle.books.specs.Marked.{key_of, may_repeat, noted_entry}
 use Rattle.books.proofs.Laws.{some_stop, some_none}
 
 -- a place is marked: the returns of `note`
-module _ (marks e : List ℕ) {x : Bool} (x-is : x ≡ zeros e) where
+module _ (marks e : List ℕ) {x : Bool} (x_is : x ≡ list_all (λ y. eqb y 0) e) where
+  x-is : x ≡ zeros e
+  x-is = x_is ∙ sym (zeros_all e)
+
   pub empty_new : x ≡ true → false ≡ may_repeat marks e
   unfolding may_repeat
   empty_new f = rw (← x-is, f) refl

@@ -144,11 +144,9 @@ pub(crate) fn blank_blocks(book: &mut [u8], n: usize)
     requires { length book.old ≡ 512 * n }
     ensures { book.new ≡ blank_blocks n }
 {
-    let mut k = 0;
-    while k < n {
+    for k in 0..n {
         let b = blank_block(k);
         bytes::put(&b, BLOCK_BYTES * k, book);
-        k += 1;
     }
 }
 

@@ -1,10 +1,10 @@
 // One book: its length, its blocks and its places, and the bytes of an entry.
-ghost use Rattle.std.specs.Prelude.{◌≡◌, ◌+◌, ◌≤◌, length, take, drop};
-ghost use Rattle.blocks.specs.Block.{zeros};
+ghost use Rattle.std.specs.Prelude.{◌≡◌, ◌==◌, ◌+◌, ◌≤◌, length, take, drop};
+ghost use Rattle.std.specs.List.{list_all};
 ghost use Rattle.books.specs.Book.{places_of, place_at, entry_at, sound_entry, sound_place, sound_places};
 ghost use Rattle.books.specs.Book.{sound_length, sound_blocks, sound_book, belongs};
 
-use blocks::{BLOCK_BYTES, Judged};
+use blocks::BLOCK_BYTES;
 
 // Whether a book has a sound length, sound blocks and sound places; if not, it is refused with 95.
 pub(crate) fn sound_book(book: &[u8], line: bool) -> bool
@@ -33,8 +33,8 @@ fn sound_blocks(book: &[u8]) -> bool
 {
     let judged = blocks::judge_run(book, 0, 504 * (book.len() / BLOCK_BYTES));
     match judged {
-        Judged::Passed => true,
-        Judged::Refused(_) => false,
+        Ok(()) => true,
+        Err(_) => false,
     }
 }
 
@@ -43,12 +43,10 @@ fn sound_places(book: &[u8], line: bool) -> bool
     ensures { result ≡ sound_places line book.now (places_of book.now) }
 {
     let n = 21 * (book.len() / BLOCK_BYTES);
-    let mut p = 0;
-    while p < n {
+    for p in 0..n {
         if !sound_place(entry(book, p), line) {
             return false;
         }
-        p += 1;
     }
     true
 }
@@ -79,16 +77,9 @@ fn belongs(line: bool, zone: u16) -> bool
 
 // Whether all bytes are zero.
 pub(crate) fn empty(e: &[u8]) -> bool
-    ensures { result ≡ zeros e.now }
+    ensures { result ≡ list_all (λ x. x == 0) e.now }
 {
-    let mut i = 0;
-    while i < e.len() {
-        if e[i] != 0 {
-            return false;
-        }
-        i += 1;
-    }
-    true
+    e.iter().all(|x| *x == 0)
 }
 
 // The first byte of a place.

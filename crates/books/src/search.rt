@@ -23,13 +23,11 @@ fn twice_among(book: &[u8], noted: &mut [u8]) -> bool
     ensures { result ≡ twice_in book.now (places_of book.now) }
 {
     let n = 21 * (book.len() / BLOCK_BYTES);
-    let mut p = 0;
-    while p < n {
+    for p in 0..n {
         let may = note(places::entry(book, p), noted);
         if again(book, p, may) {
             return true;
         }
-        p += 1;
     }
     false
 }
@@ -64,12 +62,10 @@ pub(crate) fn seen_in(book: &[u8], zone: u32, setting: u32, n: usize) -> bool
     requires { n ≤ places_of book.now }
     ensures { result ≡ seen_in zone setting book.now n }
 {
-    let mut q = 0;
-    while q < n {
+    for q in 0..n {
         if is_for(places::entry(book, q), zone, setting) {
             return true;
         }
-        q += 1;
     }
     false
 }
@@ -88,13 +84,12 @@ pub(crate) fn best_in(book: &[u8], zone: u32, setting: u32) -> usize
     let n = 21 * (book.len() / BLOCK_BYTES);
     let mut best = 0;
     let mut top = 0;
-    let mut p = 0;
-    while p < n {
+    for p in 0..n {
         let e = places::entry(book, p);
         let s = fields::word(e, 2);
-        p += 1;
-        if fits(e, zone, setting) & (top < s) {
-            best = p;
+        let better = fits(e, zone, setting) & (top < s);
+        if better {
+            best = p + 1;
             top = s;
         }
     }
@@ -114,12 +109,10 @@ pub(crate) fn first_empty(book: &[u8]) -> usize
 {
     let n = 21 * (book.len() / BLOCK_BYTES);
     let mut first = 0;
-    let mut p = 0;
-    while p < n {
+    for p in 0..n {
         let here = places::empty(places::entry(book, p));
-        p += 1;
         if here & (first == 0) {
-            first = p;
+            first = p + 1;
         }
     }
     first
@@ -130,12 +123,10 @@ pub(crate) fn first_for(book: &[u8], zone: u32, setting: u32) -> usize
     ensures { First (for_at zone setting book.now) (places_of book.now) result }
 {
     let n = 21 * (book.len() / BLOCK_BYTES);
-    let mut p = 0;
-    while p < n {
+    for p in 0..n {
         if is_for(places::entry(book, p), zone, setting) {
             return p + 1;
         }
-        p += 1;
     }
     0
 }

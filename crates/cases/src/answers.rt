@@ -1,69 +1,126 @@
 // Prints the answer to one case after its label.
-use arguments::{CallArgs, Called};
+use arguments::CallArgs;
 use bind::Bound;
-use dialect::{Decoded, Dialect, DialectTypes};
+use dialect::Dialect;
 use forest::RECORD;
-use namesakes::Named;
-use parameters::{Counted, Range, Unpacked};
+use parameters::{Counted, Range};
+use std::fmt::Display;
 use std::io;
-use table::{Checked, Extent, Place, Refusal, Wanted};
-use targets::Targeted;
-use types::Shaped;
-use validate::Listed;
+use table::{Refusal, Wanted};
 
-// A request: its job, the lengths of its parts, and the job's node; a binding and namesakes also have the node of the
-// Def, beside that of the Call. The edition of the type rules is in the same field as the node of the Def.
-#[derive(Clone, Copy)]
-pub struct Asked {
-    pub job: u16,
-    pub label: usize,
-    pub table: usize,
-    pub names: usize,
-    pub dialect: usize,
-    pub wanted: u16,
-    pub room: usize,
-    pub def: usize,
-    pub edition: u32,
-    pub node: usize,
+// The jobs: a heading, the table check, a job's node, the bytes of a dialect, and those of the library.
+#[derive(Clone, Copy, PartialEq, Eq)]
+pub(crate) enum Job {
+    Heading,
+    Table,
+    Node,
+    Dialect,
+    Call,
+    Parameters,
+    Target,
+    Assignment,
+    Type,
+    Module,
+    Binding,
+    Audit,
+    Format,
+    Parts,
+    Namesakes,
 }
 
-// The first len bytes of a buffer; none if it is shorter.
-pub(crate) fn front(s: &[u8], len: usize) -> &[u8] {
-    if len <= s.len() {
-        return &s[0..len];
+impl From<u16> for Job {
+    // Any other number is that of a heading.
+    fn from(number: u16) -> Job {
+        match number {
+            1 => Job::Table,
+            2 => Job::Node,
+            3 => Job::Dialect,
+            4 => Job::Call,
+            5 => Job::Parameters,
+            6 => Job::Target,
+            7 => Job::Assignment,
+            8 => Job::Type,
+            9 => Job::Module,
+            10 => Job::Binding,
+            11 => Job::Audit,
+            12 => Job::Format,
+            13 => Job::Parts,
+            14 => Job::Namesakes,
+            _ => Job::Heading,
+        }
     }
-    &s[0..0]
 }
 
-pub(crate) fn say(rt: &impl Print, text: &[u8]) -> io::Result<()> {
-    rt.write_all(text)
+// A request: its job, its parts, the length of the job's buffer and the job's node. `second` is the node of the Def
+// for a binding and namesakes, the length of the second buffer for the parts of a format text, and the edition for an
+// audit or a type. A format text is in the place of the table, and the words of its parts in the place of the names.
+#[derive(Clone, Copy)]
+pub(crate) struct Case<'a> {
+    pub(crate) job: Job,
+    pub(crate) label: &'a [u8],
+    pub(crate) table: &'a [u8],
+    pub(crate) names: &'a [u8],
+    pub(crate) dialect: &'a [u8],
+    pub(crate) wanted: Wanted,
+    pub(crate) room: usize,
+    pub(crate) second: u16,
+    pub(crate) node: usize,
 }
 
-fn say_number(rt: &impl Print, n: u64) -> io::Result<()> {
-    rt.print(n)
+// The lengths of the buffers.
+const MOST_BYTES: usize = 2100;
+
+const MOST_WORDS: usize = 64;
+
+const MOST_TEXT: usize = 64;
+
+// Prints a case's label and its answer.
+pub(crate) fn say_case(rt: &impl Print, case: Case) -> io::Result<()> {
+    rt.write_all(case.label)?;
+    answer(rt, case)?;
+    println!(rt)
+}
+
+fn answer(rt: &impl Print, case: Case) -> io::Result<()> {
+    let Case {
+        table,
+        names,
+        node,
+        ..
+    } = case;
+    match case.job {
+        Job::Heading => Ok(()),
+        Job::Table => say_check(rt, table, names),
+        Job::Node => say_node(rt, table, node, case.wanted),
+        Job::Dialect => say_decoded(rt, case.dialect),
+        Job::Call => say_call(rt, table, names, node),
+        Job::Parameters => say_params(rt, case),
+        Job::Target => say_targeted(rt, targets::target(table, names, node)),
+        Job::Assignment => say_targeted(rt, targets::assignment(table, names, node)),
+        Job::Type => say_type(rt, case),
+        Job::Module => say_module(rt, case),
+        Job::Binding => say_bind(rt, case),
+        Job::Audit => say_audit(rt, case),
+        Job::Format => say_format(rt, case),
+        Job::Parts => say_parts(rt, case),
+        Job::Namesakes => say_namesakes(rt, case),
+    }
 }
 
 // Prints a refusal: its number, its node, its span with the source file, and the earlier node of the same name.
 fn say_refusal(rt: &impl Print, r: Refusal) -> io::Result<()> {
-    say_number(rt, table::number(r) as u64)?;
+    print!(rt; "{}", table::number(r))?;
     let node = table::node_of(r);
-    if let Place::At(i) = node {
-        say(rt, b" at ")?;
-        say_number(rt, i as u64)?;
+    if let Some(i) = node {
+        print!(rt; " at {i}")?;
     }
     let extent = table::extent_of(r);
-    if let Extent::Of(span) = extent {
-        say(rt, b" ")?;
-        say_number(rt, span.begin as u64)?;
-        say(rt, b"-")?;
-        say_number(rt, span.end as u64)?;
-        say(rt, b" in file ")?;
-        say_number(rt, span.file as u64)?;
+    if let Some(span) = extent {
+        print!(rt; " {}-{} in file {}", span.begin, span.end, span.file)?;
     }
     let earlier = table::earlier_of(r);
-    if let Place::At(i) = earlier {
-        say(rt, b", first at ")?;
-        say_number(rt, i as u64)?;
+    if let Some(i) = earlier {
+        print!(rt; ", first at {i}")?;
     }
     Ok(())
 }
@@ -71,13 +128,14 @@ fn say_refusal(rt: &impl Print, r: Refusal) -> io::Result<()> {
 fn say_check(rt: &impl Print, table: &[u8], names: &[u8]) -> io::Result<()> {
     let c = table::check(table, names);
     match c {
-        Checked::Sound => say(rt, b"sound"),
-        Checked::Refused(r) => say_refusal(rt, r),
+        Ok(()) => print!(rt; "sound"),
+        Err(r) => say_refusal(rt, r),
     }
 }
 
-fn wanted(n: u16) -> Wanted {
-    match n {
+// The kind of node that a number asks for.
+pub(crate) fn wanted_of(number: u16) -> Wanted {
+    match number {
         1 => Wanted::Parameters,
         2 => Wanted::Call,
         3 => Wanted::Assignment,
@@ -86,57 +144,48 @@ fn wanted(n: u16) -> Wanted {
 }
 
 // Whether a node fits a job: 6, or the number of records of its subtree, and the class and span of the first.
-fn say_node(rt: &impl Print, table: &[u8], node: usize, wants: u16) -> io::Result<()> {
-    if !table::node_fits(table, node, wanted(wants)) {
-        return say(rt, b"6");
+fn say_node(rt: &impl Print, table: &[u8], node: usize, wanted: Wanted) -> io::Result<()> {
+    if !table::node_fits(table, node, wanted) {
+        return print!(rt; "6");
     }
     let s = table::stretch(table, node);
-    say(rt, b"stretch of ")?;
-    say_number(rt, (s.len() / RECORD) as u64)?;
-    say(rt, b", class ")?;
-    say_number(rt, table::class(s) as u64)?;
-    say(rt, b", refused as ")?;
+    let records = s.len() / RECORD;
+    let class = table::class(s);
+    print!(rt; "stretch of {records}, class {class}, refused as ")?;
     say_refusal(rt, table::refused_at(99, 7, s))
-}
-
-fn bit(b: bool) -> u64 {
-    if b { 1 } else { 0 }
-}
-
-fn types(t: DialectTypes) -> u64 {
-    match t {
-        DialectTypes::Disable => 0,
-        DialectTypes::ParseOnly => 1,
-        DialectTypes::Enable => 2,
-    }
 }
 
 // Prints a dialect as its nine numbers.
 fn say_dialect(rt: &impl Print, d: Dialect) -> io::Result<()> {
-    say_number(rt, bit(d.enable_def))?;
-    say_number(rt, bit(d.enable_lambda))?;
-    say_number(rt, bit(d.enable_load))?;
-    say_number(rt, bit(d.enable_keyword_only_arguments))?;
-    say_number(rt, bit(d.enable_positional_only_arguments))?;
-    let t = d.enable_types;
-    say_number(rt, types(t))?;
-    say_number(rt, bit(d.enable_load_reexport))?;
-    say_number(rt, bit(d.enable_top_level_stmt))?;
-    say_number(rt, bit(d.enable_f_strings))
+    let numbers = [
+        u8::from(d.enable_def),
+        u8::from(d.enable_lambda),
+        u8::from(d.enable_load),
+        u8::from(d.enable_keyword_only_arguments),
+        u8::from(d.enable_positional_only_arguments),
+        d.enable_types as u8,
+        u8::from(d.enable_load_reexport),
+        u8::from(d.enable_top_level_stmt),
+        u8::from(d.enable_f_strings),
+    ];
+    for number in numbers {
+        print!(rt; "{number}")?;
+    }
+    Ok(())
 }
 
 fn say_decoded(rt: &impl Print, bytes: &[u8]) -> io::Result<()> {
     let d = dialect::from_bytes(bytes);
     match d {
-        Decoded::Valid(v) => say_dialect(rt, v),
-        Decoded::Invalid => say(rt, b"5"),
+        Some(v) => say_dialect(rt, v),
+        None => print!(rt; "5"),
     }
 }
 
-fn say_place(rt: &impl Print, p: Place) -> io::Result<()> {
+fn say_place(rt: &impl Print, p: Option<u32>) -> io::Result<()> {
     match p {
-        Place::At(i) => say_number(rt, i as u64),
-        Place::Nothing => say(rt, b"none"),
+        Some(i) => print!(rt; "{i}"),
+        None => print!(rt; "none"),
     }
 }
 
@@ -144,379 +193,212 @@ fn say_place(rt: &impl Print, p: Place) -> io::Result<()> {
 fn say_arguments(rt: &impl Print, a: CallArgs) -> io::Result<()> {
     let star = a.star;
     let star_star = a.star_star;
-    say(rt, b"positional ")?;
-    say_number(rt, a.num_pos as u64)?;
-    say(rt, b", named ")?;
-    say_number(rt, a.num_named as u64)?;
-    say(rt, b", star ")?;
+    print!(rt; "positional {}, named {}, star ", a.num_pos, a.num_named)?;
     say_place(rt, star)?;
-    say(rt, b", kwargs ")?;
+    print!(rt; ", kwargs ")?;
     say_place(rt, star_star)
 }
 
 fn say_call(rt: &impl Print, table: &[u8], names: &[u8], node: usize) -> io::Result<()> {
     let c = arguments::call(table, names, node);
     match c {
-        Called::Accepted(a) => say_arguments(rt, a),
-        Called::Refused(r) => say_refusal(rt, r),
+        Ok(a) => say_arguments(rt, a),
+        Err(r) => say_refusal(rt, r),
     }
 }
 
-fn say_byte(rt: &impl Print, b: u8) -> io::Result<()> {
-    say(rt, b" ")?;
-    say_number(rt, b as u64)
-}
-
-// Prints the bytes of a buffer, one after the other.
-fn say_bytes(rt: &impl Print, s: &[u8]) -> io::Result<()> {
-    let n = s.len();
-    let mut i = 0;
-    while i < n {
-        say_byte(rt, fields::byte(s, i))?;
-        i += 1;
+// Prints the numbers of a list, each after a space.
+fn say_numbers<T: Display>(rt: &impl Print, numbers: &[T]) -> io::Result<()> {
+    for number in numbers {
+        print!(rt; " {number}")?;
     }
     Ok(())
 }
 
 fn say_range(rt: &impl Print, r: Range) -> io::Result<()> {
-    say(rt, b" ")?;
-    say_number(rt, r.from as u64)?;
-    say(rt, b"..")?;
-    say_number(rt, r.upto as u64)
+    print!(rt; " {}..{}", r.from, r.upto)
 }
 
 // Prints the five ranges of an accepted list, and its flat count.
 fn say_counted(rt: &impl Print, c: Counted) -> io::Result<()> {
     let i = c.indices;
     let n = c.flat as usize;
-    say(rt, b"ranges")?;
+    print!(rt; "ranges")?;
     say_range(rt, i.pos_only())?;
     say_range(rt, i.pos_or_named())?;
     say_range(rt, i.args_range())?;
     say_range(rt, i.named_only(n))?;
     say_range(rt, i.kwargs_range(n))?;
-    say(rt, b", flat ")?;
-    say_number(rt, c.flat as u64)
+    print!(rt; ", flat {}", c.flat)
 }
 
-// Runs the parameter job, and prints the mode buffer at exit.
-fn say_params(
+// Runs a job with the front of a buffer, whose length the request gives: the job prints its answer, and then the
+// buffer at exit is printed under its name. A request for more than the buffer has no answer.
+fn say_lent<T: Display, F: FnOnce(&mut [T]) -> io::Result<()>>(
     rt: &impl Print,
-    table: &[u8],
-    names: &[u8],
-    node: usize,
-    modes: &mut [u8],
-) -> io::Result<()> {
-    let u = parameters::params(table, names, node, modes);
-    match u {
-        Unpacked::Accepted(c) => say_counted(rt, c)?,
-        Unpacked::Refused(r) => say_refusal(rt, r)?,
-    }
-    say(rt, b", modes")?;
-    say_bytes(rt, modes)
+    space: &mut [T],
+    room: usize,
+    name: &str,
+    job: F,
+) -> io::Result<()>
+    requires { F.IsAlwaysCallable job }
+{
+    let Some(lent) = space.get_mut(..room) else {
+        return Ok(());
+    };
+    job(lent)?;
+    print!(rt; ", {name}")?;
+    say_numbers(rt, lent)
 }
 
-fn say_targeted(rt: &impl Print, t: Targeted) -> io::Result<()> {
+fn say_params(rt: &impl Print, case: Case) -> io::Result<()> {
+    let mut space = [9u8; MOST_BYTES];
+    say_lent(rt, &mut space, case.room, "modes", |modes| {
+        let u = parameters::params(case.table, case.names, case.node, modes);
+        match u {
+            Ok(c) => say_counted(rt, c),
+            Err(r) => say_refusal(rt, r),
+        }
+    })
+}
+
+fn say_targeted(rt: &impl Print, t: Result<u32, Refusal>) -> io::Result<()> {
     match t {
-        Targeted::Leaves(n) => {
-            say(rt, b"leaves ")?;
-            say_number(rt, n as u64)
+        Ok(n) => print!(rt; "leaves {n}"),
+        Err(r) => say_refusal(rt, r),
+    }
+}
+
+fn say_type(rt: &impl Print, case: Case) -> io::Result<()> {
+    let Case {
+        table,
+        names,
+        dialect,
+        node,
+        ..
+    } = case;
+    let edition = u32::from(case.second);
+    let mut space = [9u8; MOST_BYTES];
+    say_lent(rt, &mut space, case.room, "shapes", |shapes| {
+        let s = shapes::type_shape(table, names, dialect, edition, node, shapes);
+        match s {
+            Ok(()) => print!(rt; "accepted"),
+            Err(r) => say_refusal(rt, r),
         }
-        Targeted::Refused(r) => say_refusal(rt, r),
-    }
+    })
 }
 
-// Runs the type job, and prints the shape buffer at exit.
-fn say_type(
-    rt: &impl Print,
-    a: Asked,
-    table: &[u8],
-    names: &[u8],
-    dialect: &[u8],
-    shapes: &mut [u8],
-) -> io::Result<()> {
-    let s = shapes::type_shape(table, names, dialect, a.edition, a.node, shapes);
-    match s {
-        Shaped::Accepted => say(rt, b"accepted")?,
-        Shaped::Refused(r) => say_refusal(rt, r)?,
-    }
-    say(rt, b", shapes")?;
-    say_bytes(rt, shapes)
-}
-
-// The jobs with a buffer: every byte of it is 9 at entry, and the request gives its length.
-fn say_lent(
-    rt: &impl Print,
-    a: Asked,
-    table: &[u8],
-    names: &[u8],
-    dialect: &[u8],
-) -> io::Result<()> {
-    let room = a.room;
-    let mut space = [9u8; 2100];
-    let lent: &mut [u8] = &mut space;
-    if lent.len() < room {
-        return Ok(());
-    }
-    if a.job == 5 {
-        return say_params(rt, table, names, a.node, &mut lent[0..room]);
-    }
-    say_type(rt, a, table, names, dialect, &mut lent[0..room])
-}
-
-fn say_word(rt: &impl Print, w: u32) -> io::Result<()> {
-    say(rt, b" ")?;
-    say_number(rt, w as u64)
-}
-
-// Prints the words of a list, one after the other.
-fn say_words(rt: &impl Print, s: &[u32]) -> io::Result<()> {
-    let n = s.len();
-    let mut i = 0;
-    while i < n {
-        say_word(rt, s[i])?;
-        i += 1;
-    }
-    Ok(())
-}
-
-fn say_listed(rt: &impl Print, l: Listed) -> io::Result<()> {
+fn say_listed(rt: &impl Print, l: Result<u32, Refusal>) -> io::Result<()> {
     match l {
-        Listed::Total(n) => {
-            say(rt, b"errors ")?;
-            say_number(rt, n as u64)
-        }
-        Listed::Refused(r) => say_refusal(rt, r),
+        Ok(n) => print!(rt; "errors {n}"),
+        Err(r) => say_refusal(rt, r),
     }
 }
 
-// Runs the module job, and prints its list of words at exit. Every word is 9 at entry, and the request gives the
-// length.
-fn say_module(
-    rt: &impl Print,
-    table: &[u8],
-    names: &[u8],
-    dialect: &[u8],
-    room: usize,
-) -> io::Result<()> {
-    let mut space = [9u32; 64];
-    let lent: &mut [u32] = &mut space;
-    if lent.len() < room {
-        return Ok(());
-    }
-    let list = &mut lent[0..room];
-    let l = validate::module(table, names, dialect, list);
-    say_listed(rt, l)?;
-    say(rt, b", words")?;
-    say_words(rt, list)
+fn say_module(rt: &impl Print, case: Case) -> io::Result<()> {
+    let mut space = [9u32; MOST_WORDS];
+    say_lent(rt, &mut space, case.room, "words", |list| {
+        let l = validate::module(case.table, case.names, case.dialect, list);
+        say_listed(rt, l)
+    })
 }
 
-fn say_bound(rt: &impl Print, b: Bound) -> io::Result<()> {
+fn say_audit(rt: &impl Print, case: Case) -> io::Result<()> {
+    let edition = u32::from(case.second);
+    let mut space = [9u32; MOST_WORDS];
+    say_lent(rt, &mut space, case.room, "words", |list| {
+        let l = audit::audit(case.table, case.names, case.dialect, edition, list);
+        say_listed(rt, l)
+    })
+}
+
+fn say_bind(rt: &impl Print, case: Case) -> io::Result<()> {
+    let def = usize::from(case.second);
+    let mut space = [9u32; MOST_WORDS];
+    say_lent(rt, &mut space, case.room, "words", |list| {
+        let b = bind::bind(case.table, case.names, case.node, def, list);
+        say_bound(rt, b)
+    })
+}
+
+fn say_namesakes(rt: &impl Print, case: Case) -> io::Result<()> {
+    let def = usize::from(case.second);
+    let mut space = [9u32; MOST_WORDS];
+    say_lent(rt, &mut space, case.room, "words", |list| {
+        let n = namesakes::namesakes(case.table, case.names, case.node, def, list);
+        say_named(rt, n)
+    })
+}
+
+fn say_bound(rt: &impl Print, b: Result<Bound, Refusal>) -> io::Result<()> {
     match b {
-        Bound::Accepted { flat, many } => {
-            say(rt, b"parameters ")?;
-            say_number(rt, flat as u64)?;
-            say(rt, b", arguments ")?;
-            say_number(rt, many as u64)
-        }
-        Bound::Refused(r) => say_refusal(rt, r),
+        Ok(Bound { flat, many }) => print!(rt; "parameters {flat}, arguments {many}"),
+        Err(r) => say_refusal(rt, r),
     }
 }
 
-// Runs the audit, and prints its list of words at exit, in the same way.
-fn say_audit(
-    rt: &impl Print,
-    table: &[u8],
-    names: &[u8],
-    dialect: &[u8],
-    edition: u32,
-    room: usize,
-) -> io::Result<()> {
-    let mut space = [9u32; 64];
-    let lent: &mut [u32] = &mut space;
-    if lent.len() < room {
-        return Ok(());
-    }
-    let list = &mut lent[0..room];
-    let l = audit::audit(table, names, dialect, edition, list);
-    say_listed(rt, l)?;
-    say(rt, b", words")?;
-    say_words(rt, list)
-}
-
-// Runs the binding job, and prints its list of words at exit. Every word is 9 at entry, and the request gives the
-// length.
-fn say_bind(
-    rt: &impl Print,
-    table: &[u8],
-    names: &[u8],
-    call: usize,
-    def: usize,
-    room: usize,
-) -> io::Result<()> {
-    let mut space = [9u32; 64];
-    let lent: &mut [u32] = &mut space;
-    if lent.len() < room {
-        return Ok(());
-    }
-    let list = &mut lent[0..room];
-    let b = bind::bind(table, names, call, def, list);
-    say_bound(rt, b)?;
-    say(rt, b", words")?;
-    say_words(rt, list)
-}
-
-fn say_named(rt: &impl Print, n: Named) -> io::Result<()> {
+fn say_named(rt: &impl Print, n: Result<u32, Refusal>) -> io::Result<()> {
     match n {
-        Named::Found(count) => {
-            say(rt, b"reported ")?;
-            say_number(rt, count as u64)
-        }
-        Named::Refused(r) => say_refusal(rt, r),
+        Ok(count) => print!(rt; "reported {count}"),
+        Err(r) => say_refusal(rt, r),
     }
 }
 
-// Runs the namesakes job, and prints its list of words at exit, in the same way.
-fn say_namesakes(
-    rt: &impl Print,
-    table: &[u8],
-    names: &[u8],
-    call: usize,
-    def: usize,
-    room: usize,
-) -> io::Result<()> {
-    let mut space = [9u32; 64];
-    let lent: &mut [u32] = &mut space;
-    if lent.len() < room {
-        return Ok(());
-    }
-    let list = &mut lent[0..room];
-    let n = namesakes::namesakes(table, names, call, def, list);
-    say_named(rt, n)?;
-    say(rt, b", words")?;
-    say_words(rt, list)
-}
-
-fn say_formatted(rt: &impl Print, w: fstring::Written) -> io::Result<()> {
+fn say_formatted(rt: &impl Print, w: Result<fstring::Written, Refusal>) -> io::Result<()> {
     match w {
-        fstring::Written::Accepted { length, enabled } => {
-            say(rt, b"bytes ")?;
-            say_number(rt, length as u64)?;
+        Ok(fstring::Written { length, enabled }) => {
+            print!(rt; "bytes {length}")?;
             if !enabled {
-                say(rt, b", notice 62")?;
+                print!(rt; ", notice 62")?;
             }
             Ok(())
         }
-        fstring::Written::Refused(r) => say_refusal(rt, r),
+        Err(r) => say_refusal(rt, r),
     }
 }
 
 // Writes the format text of parts, whose words are given as bytes, at most 14, and prints the buffer at exit. Every
 // byte of it is a dot at entry.
-fn say_format(
-    rt: &impl Print,
-    texts: &[u8],
-    parts: &[u8],
-    dialect: &[u8],
-    room: usize,
-) -> io::Result<()> {
-    let words = [
-        fields::word(parts, 0),
-        fields::word(parts, 4),
-        fields::word(parts, 8),
-        fields::word(parts, 12),
-        fields::word(parts, 16),
-        fields::word(parts, 20),
-        fields::word(parts, 24),
-        fields::word(parts, 28),
-        fields::word(parts, 32),
-        fields::word(parts, 36),
-        fields::word(parts, 40),
-        fields::word(parts, 44),
-        fields::word(parts, 48),
-        fields::word(parts, 52),
-    ];
-    let mut space = [46u8; 64];
-    let all: &[u32] = &words;
-    let lent: &mut [u8] = &mut space;
-    let count = parts.len() / 4;
-    if all.len() < count {
-        return Ok(());
+fn say_format(rt: &impl Print, case: Case) -> io::Result<()> {
+    let mut words = [0u32; 14];
+    for (word, bytes) in words.iter_mut().zip(case.names.chunks_exact(4)) {
+        *word = fields::word(bytes, 0);
     }
-    if lent.len() < room {
+    let Some(parts) = words.get(..case.names.len() / 4) else {
         return Ok(());
-    }
-    let text = &mut lent[0..room];
-    let w = fstring::write(&all[0..count], texts, dialect, text);
+    };
+    let mut space = [b'.'; MOST_TEXT];
+    let Some(text) = space.get_mut(..case.room) else {
+        return Ok(());
+    };
+    let w = fstring::write(parts, case.table, case.dialect, text);
     say_formatted(rt, w)?;
-    say(rt, b", text ")?;
-    say(rt, text)
+    print!(rt; ", text ")?;
+    rt.write_all(text)
 }
 
 fn say_reading(rt: &impl Print, r: fstring::Reading) -> io::Result<()> {
     match r {
-        fstring::Reading::Accepted { parts, bytes } => {
-            say(rt, b"parts ")?;
-            say_number(rt, parts as u64)?;
-            say(rt, b", bytes ")?;
-            say_number(rt, bytes as u64)
-        }
-        fstring::Reading::StrayAt(position) => {
-            say(rt, b"63 at byte ")?;
-            say_number(rt, position as u64)
-        }
-        fstring::Reading::Short => say(rt, b"7"),
+        fstring::Reading::Accepted { parts, bytes } => print!(rt; "parts {parts}, bytes {bytes}"),
+        fstring::Reading::StrayAt(position) => print!(rt; "63 at byte {position}"),
+        fstring::Reading::Short => print!(rt; "7"),
     }
 }
 
 // Reads the parts of a format text, and prints both buffers at exit. Every word is 9 and every byte is a dot at entry.
-fn say_parts(rt: &impl Print, text: &[u8], room: usize, texts_room: usize) -> io::Result<()> {
-    let mut space = [9u32; 64];
-    let mut more = [46u8; 64];
-    let lent: &mut [u32] = &mut space;
-    let lent_texts: &mut [u8] = &mut more;
-    if lent.len() < room {
+fn say_parts(rt: &impl Print, case: Case) -> io::Result<()> {
+    let mut space = [9u32; MOST_WORDS];
+    let mut more = [b'.'; MOST_TEXT];
+    let Some(parts) = space.get_mut(..case.room) else {
         return Ok(());
-    }
-    if lent_texts.len() < texts_room {
+    };
+    let Some(texts) = more.get_mut(..usize::from(case.second)) else {
         return Ok(());
-    }
-    let parts = &mut lent[0..room];
-    let texts = &mut lent_texts[0..texts_room];
-    let r = fstring::read(text, parts, texts);
+    };
+    let r = fstring::read(case.table, parts, texts);
     say_reading(rt, r)?;
-    say(rt, b", words")?;
-    say_words(rt, parts)?;
-    say(rt, b", texts ")?;
-    say(rt, texts)
-}
-
-// Jobs: 0 a heading, 1 the table check, 2 a job's node, 3 the bytes of a dialect, 4 a call's arguments, 5 parameters, 6
-// a target, 7 an assignment, 8 a type, 9 a module, 10 a binding, 11 an audit, 12 a format text, 13 its parts, 14
-// namesakes. For a format text, the text bytes are in the place of the table, and the words of its parts in the place
-// of the names.
-pub(crate) fn answer(
-    rt: &impl Print,
-    a: Asked,
-    table: &[u8],
-    names: &[u8],
-    dialect: &[u8],
-) -> io::Result<()> {
-    let job = a.job;
-    match job {
-        1 => say_check(rt, table, names),
-        2 => say_node(rt, table, a.node, a.wanted),
-        3 => say_decoded(rt, dialect),
-        4 => say_call(rt, table, names, a.node),
-        5 | 8 => say_lent(rt, a, table, names, dialect),
-        6 => say_targeted(rt, targets::target(table, names, a.node)),
-        7 => say_targeted(rt, targets::assignment(table, names, a.node)),
-        9 => say_module(rt, table, names, dialect, a.room),
-        10 => say_bind(rt, table, names, a.node, a.def, a.room),
-        11 => say_audit(rt, table, names, dialect, a.edition, a.room),
-        12 => say_format(rt, table, names, dialect, a.room),
-        13 => say_parts(rt, table, a.room, a.def),
-        14 => say_namesakes(rt, table, names, a.node, a.def, a.room),
-        _ => say(rt, b""),
-    }
+    print!(rt; ", words")?;
+    say_numbers(rt, parts)?;
+    print!(rt; ", texts ")?;
+    rt.write_all(texts)
 }

@@ -6,83 +6,21 @@
 
 mod answers;
 
-use answers::Asked;
+use answers::{Case, Job};
 use std::fs::File;
 use std::io::{self, Read};
 
-// More than the largest length that a request can give its table.
-const MOST_GIVEN: usize = 65_536;
+// The lengths of the longest parts of a request: a longer part ends the file.
+const MOST_LABEL: usize = 256;
 
-// The head of a request: fields of two bytes, and the node in four.
-fn head_of(head: &[u8]) -> Asked {
-    Asked {
-        job: fields::half(head, 0),
-        label: fields::half(head, 2) as usize,
-        table: fields::half(head, 4) as usize,
-        names: fields::half(head, 6) as usize,
-        dialect: fields::half(head, 8) as usize,
-        wanted: fields::half(head, 10),
-        room: fields::half(head, 12) as usize,
-        def: fields::half(head, 14) as usize,
-        edition: fields::half(head, 14) as u32,
-        node: fields::word(head, 16) as usize,
-    }
-}
+const MOST_TABLE: usize = 65_535;
 
-// Reads the next bytes of the file into the start of a buffer. Returns false if there were fewer.
-fn filled(input: &mut impl Read, space: &mut [u8], len: usize) -> bool {
-    if space.len() < len {
-        return false;
-    }
-    input.read_exact(&mut space[0..len]).is_ok()
-}
+const MOST_NAMES: usize = 8192;
 
-// Runs one request. Returns false at the end of the file.
-fn one(rt: &impl Print, input: &mut impl Read) -> io::Result<bool> {
-    let mut head = [0u8; 20];
-    if !filled(input, &mut head, 20) {
-        return Ok(false);
-    }
-    let a = head_of(&head);
-    let mut label = [0u8; 256];
-    let mut table = [0u8; MOST_GIVEN];
-    let mut names = [0u8; 8192];
-    let mut dialect = [0u8; 16];
-    if !filled(input, &mut label, a.label) {
-        return Ok(false);
-    }
-    if !filled(input, &mut table, a.table) {
-        return Ok(false);
-    }
-    if !filled(input, &mut names, a.names) {
-        return Ok(false);
-    }
-    if !filled(input, &mut dialect, a.dialect) {
-        return Ok(false);
-    }
-    answers::say(rt, answers::front(&label, a.label))?;
-    answers::answer(
-        rt,
-        a,
-        answers::front(&table, a.table),
-        answers::front(&names, a.names),
-        answers::front(&dialect, a.dialect),
-    )?;
-    answers::say(rt, b"\n")?;
-    Ok(true)
-}
+const MOST_DIALECT: usize = 16;
 
-// Runs all requests, at most as many as a field of the head can count.
-fn all(rt: &impl Print, input: &mut impl Read) -> io::Result<()> {
-    let mut left = 65536u64;
-    while 0 < left {
-        if !one(rt, input)? {
-            return Ok(());
-        }
-        left -= 1;
-    }
-    Ok(())
-}
+// As many requests as a field of the head can count.
+const MOST_REQUESTS: usize = 65_536;
 
 fn main(rt: HostRuntime) -> io::Result<()> {
     match File::open(&rt, "cases.bin") {
@@ -91,7 +29,55 @@ fn main(rt: HostRuntime) -> io::Result<()> {
     }
 }
 
+// Runs all requests.
+fn all(rt: &impl Print, input: &mut impl Read) -> io::Result<()> {
+    let mut label = [0u8; MOST_LABEL];
+    let mut table = [0u8; MOST_TABLE];
+    let mut names = [0u8; MOST_NAMES];
+    let mut dialect = [0u8; MOST_DIALECT];
+    for _ in 0..MOST_REQUESTS {
+        match next(input, &mut label, &mut table, &mut names, &mut dialect) {
+            Some(case) => answers::say_case(rt, case)?,
+            None => break,
+        }
+    }
+    Ok(())
+}
+
+// The next request of the file, read into four buffers; none at the end. The head has fields of two bytes, and the
+// node in four.
+fn next<'a>(
+    input: &mut impl Read,
+    label: &'a mut [u8],
+    table: &'a mut [u8],
+    names: &'a mut [u8],
+    dialect: &'a mut [u8],
+) -> Option<Case<'a>> {
+    let mut head = [0u8; 20];
+    input.read_exact(&mut head).ok()?;
+    Some(Case {
+        job: Job::from(fields::half(&head, 0)),
+        label: part(input, label, fields::half(&head, 2) as usize)?,
+        table: part(input, table, fields::half(&head, 4) as usize)?,
+        names: part(input, names, fields::half(&head, 6) as usize)?,
+        dialect: part(input, dialect, fields::half(&head, 8) as usize)?,
+        wanted: answers::wanted_of(fields::half(&head, 10)),
+        room: fields::half(&head, 12) as usize,
+        second: fields::half(&head, 14),
+        node: fields::word(&head, 16) as usize,
+    })
+}
+
+// The next `len` bytes of the file, read to the front of a buffer; none if the buffer is shorter or there are fewer.
+fn part<'a>(input: &mut impl Read, space: &'a mut [u8], len: usize) -> Option<&'a [u8]> {
+    let bytes = space.get_mut(..len)?;
+    input.read_exact(bytes).ok()?;
+    Some(bytes)
+}
+
 // Writes a line to standard error: what failed, a colon, and why in the system's words, without the number after them.
+// Each program has its own: a public function of a library must promise something (tools/gate/promises.py), and no
+// contract says what is printed.
 fn fail(rt: &(impl Eprint + AllocGlobal), what: &str, why: io::Error) -> io::Result<()> {
     let text = format!(in rt.alloc(); "{why}")?;
     match text.split_once(" (os error ") {

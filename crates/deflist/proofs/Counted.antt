@@ -2,6 +2,7 @@
 -- `/`, the flat count and num_positional on the way. In no list, accepted or refused, is any of them larger than the
 -- list is long (`counted_at_most`). The induction is on the list: each parameter adds at most one to each number
 -- (Steps' `bounded_on`), and the walk has read one parameter more. Assumes nothing.
+use Rattle.std.specs.Prelude.{None, Option, Some}
 use mathlib.Core.Path.{◌≡◌, refl}
 use mathlib.Core.Bool.{Bool, true, false}
 use mathlib.Core.List.{List, [], ◌∷◌, ◌++◌}
@@ -16,17 +17,15 @@ use Rattle.deflist.specs.Reading.{PlaceBelow, Bounded}
 use Rattle.deflist.specs.Reached.{onward, through, reached, AllAtMost}
 use Rattle.deflist.specs.declared.Check.{Check}
 use Rattle.deflist.specs.declared.Check.TheVariants.{Fine, Broken, Repeated}
-use Rattle.deflist.specs.declared.FlatPlace.{FlatPlace}
-use Rattle.deflist.specs.declared.FlatPlace.TheVariants.{AtFlat, NoFlat}
 use Rattle.deflist.specs.declared.Flat.{Flat}
 use Rattle.deflist.specs.declared.Counts.{Counts}
 use Rattle.deflist.specs.declared.Unpacking.{Unpacking}
 use Rattle.deflist.proofs.Steps.{Cleared, step_on, step_stop, step_again, clear_on, clear_start, bounded_on}
 use Rattle.deflist.proofs.Theorems.{slash_within, bounded_start}
 
-place_wider : {m n : ℕ} (p : FlatPlace) → m ≤ n → PlaceBelow m p → PlaceBelow n p
-place_wider NoFlat h b = tt
-place_wider (AtFlat i) h b = omega arith
+place_wider : {m n : ℕ} (p : Option Flat) → m ≤ n → PlaceBelow m p → PlaceBelow n p
+place_wider None h b = tt
+place_wider (Some i) h b = omega arith
 
 bounded_most : {m k n : ℕ} {c : Counts} → Bounded m k c → m ≤ n → k ≤ n → Bounded n n c
 bounded_most {c = c} b h g = record {

@@ -3,6 +3,7 @@
 -- (`named_kind`, `has_entry`), so the first n parameters are searched as the first n entries (`list_entries`; the
 -- induction is on the siblings). What is found is then an index of the table, within the children. `earlier` cites
 -- `earlier_room`, `earlier_at` and `earlier_none`. Assumes nothing.
+use Rattle.std.specs.Prelude.{None, Option, Some, ℕ}
 use mathlib.Core.Path.{◌≡◌, refl, sym, ◌∙◌}
 use mathlib.Core.Bool.{Bool, true, false, not, ◌&&◌, ◌||◌}
 use mathlib.Core.List.{List, [], ◌∷◌}
@@ -16,8 +17,6 @@ use borrow.Author.Tests.{eqb-true}
 use Rattle.fields.specs.Choice.{if'}
 use Rattle.forest.specs.Forest.{Node, Forest, none, node, ◌then◌, forest, roots}
 use Rattle.forest.specs.Names.{name_of, same}
-use Rattle.forest.specs.declared.Found.{Found}
-use Rattle.forest.specs.declared.Found.TheVariants.{At, Nothing}
 use Rattle.soundness.specs.KindNumbers.{kind_normal, kind_no_args, kind_slash, kind_args_param}
 use Rattle.soundness.specs.Kinds.{parameter, class_of}
 use Rattle.table.specs.Naming as entry
@@ -77,28 +76,28 @@ list_entries ns x (node r ks then ts) (suc n) h = go (eqb (class_of r.kind) para
         → (n ≤ length (params_in ns ts)
         → first_same x (take n (params_in ns ts)) ≡ first_named Parameters ns x (take n (roots ts)))
         → first_same x (take (suc n) (if' b (λ _. param_of ns r ∷ params_in ns ts) (λ _. [])))
-        ≡ if' (entry.has_name Parameters ns x r) (λ _. At r.at)
+        ≡ if' (entry.has_name Parameters ns x r) (λ _. Some r.at)
         (λ _. first_named Parameters ns x (take n (roots ts)))
     go true h rest = rw (has_entry ns x r, node_in_lem ns r, rest (omega arith)) refl
     go false h rest = absurd (omega arith)
 
 -- what is found among the children is an earlier parameter, within them
-module _ (ns x kids : List ℕ) (first n : ℕ) (most : n ≤ length (params_in ns (forest first kids))) {f : Found}
+module _ (ns x kids : List ℕ) (first n : ℕ) (most : n ≤ length (params_in ns (forest first kids))) {f : Option ℕ}
     (f-is : f ≡ first_named Parameters ns x (take n (roots (forest 0 kids)))) where
   found_same : counted_from first f ≡ first_same x (take n (params_in ns (forest first kids)))
   found_same = rw f-is (sym (list_entries ns x (forest first kids) n most
       ∙ rw add-zero at (first_shifted Parameters ns x first 0 kids n)))
 
-  found_within : {i : ℕ} → f ≡ At i → 24 * i + 24 ≤ length kids
+  found_within : {i : ℕ} → f ≡ Some i → 24 * i + 24 ≤ length kids
   found_within h = omega (arith, first_within Parameters ns x 0 kids n _ (sym f-is ∙ h))
 
-  pub earlier_room : {i : ℕ} → 24 * first + length kids < 2 ^ 64 → f ≡ At i → first + i < 2 ^ 64
+  pub earlier_room : {i : ℕ} → 24 * first + length kids < 2 ^ 64 → f ≡ Some i → first + i < 2 ^ 64
   earlier_room small h = omega (arith, found_within h)
 
-  pub earlier_at : {i : ℕ} → f ≡ At i
-      → Earlier x (take n (params_in ns (forest first kids))) (first + length kids / 24) (At (first + i))
+  pub earlier_at : {i : ℕ} → f ≡ Some i
+      → Earlier x (take n (params_in ns (forest first kids))) (first + length kids / 24) (Some (first + i))
   earlier_at h = record { says = rw h at found_same; inside = omega (arith, found_within h) }
 
-  pub earlier_none : f ≡ Nothing
-      → Earlier x (take n (params_in ns (forest first kids))) (first + length kids / 24) Nothing
+  pub earlier_none : f ≡ None
+      → Earlier x (take n (params_in ns (forest first kids))) (first + length kids / 24) None
   earlier_none h = record { says = rw h at found_same; inside = tt }

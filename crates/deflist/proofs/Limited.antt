@@ -3,6 +3,7 @@
 -- outcome is unpack's and its list is short (`limited_accepted`), 11 is unpack's (`limited_repeated`, `limited_other`),
 -- and no internal error arises (`limited_internal`). Since unpack's own numbers are at most 18 (Twice: `refused_low`),
 -- 19 says that a list is long (`limited_nineteen`). Assumes nothing.
+use Rattle.std.specs.Prelude.{Err, None, Result}
 use mathlib.Core.Path.{◌≡◌, refl, sym, ◌∙◌}
 use mathlib.Core.Bool.{Bool, true, false}
 use mathlib.Core.List.{List}
@@ -13,7 +14,6 @@ use lib.Dec.{ltb}
 use borrow.Author.Tests.{ltb-true, ltb-false, lt-ltb, le-ltb}
 use Rattle.fields.proofs.Basics.{never}
 use Rattle.forest.specs.Forest.{Node, node_of, kids_of}
-use Rattle.forest.specs.declared.Found.TheVariants.{Nothing}
 use Rattle.table.specs.Numbers.{duplicated_parameter, too_many_parameters}
 use Rattle.deflist.specs.Written.{Param, written}
 use Rattle.deflist.specs.Unpack.{Internal, accepted, refused, repeated, internal, unpack}
@@ -22,8 +22,6 @@ use Rattle.deflist.specs.Told.{fault, told}
 use Rattle.deflist.specs.Reading.{Inside, Says, Exceeds}
 use Rattle.deflist.specs.declared.Counts.{Counts}
 use Rattle.deflist.specs.declared.Fault.{Fault}
-use Rattle.deflist.specs.declared.Judged.{Judged}
-use Rattle.deflist.specs.declared.Judged.TheVariants.{Refused}
 use Rattle.deflist.proofs.Theorems.{no_internal_error}
 use Rattle.deflist.proofs.Twice.{refused_other, refused_low}
 
@@ -88,18 +86,18 @@ module _ (ns t : List ℕ) (node : ℕ) {kids : List ℕ} (kids_are : kids ≡ k
   unfolding written
   list_long = rw kids_are at (b_is.says ns (node + 1))
 
-  pub judge_long : b ≡ true → {f : Fault} → f ≡ fault too_many_parameters (node_of node t) Nothing
-      → Refused f ≡ told (limited (node_of node t) (written ns node t))
+  pub judge_long : b ≡ true → {f : Fault} → f ≡ fault too_many_parameters (node_of node t) None
+      → Err f ≡ told (limited (node_of node t) (written ns node t))
   unfolding limited
   judge_long long f-is = rw (sym list_long ∙ long, f-is) refl
 
-  pub judge_short : b ≡ false → {m : ℕ} {r : Judged} → Says (unpack (written ns node t)) m r
+  pub judge_short : b ≡ false → {m : ℕ} {r : Result Counts Fault} → Says (unpack (written ns node t)) m r
       → r ≡ told (limited (node_of node t) (written ns node t))
   unfolding limited
   judge_short short says = rw (sym list_long ∙ short) says.same
 
-pub fault_inside : (t : List ℕ) (node m : ℕ) {f : Fault} → f ≡ fault too_many_parameters (node_of node t) Nothing
-    → node ≤ m → Inside m (Refused f)
+pub fault_inside : (t : List ℕ) (node m : ℕ) {f : Fault} → f ≡ fault too_many_parameters (node_of node t) None
+    → node ≤ m → Inside m (Err f)
 fault_inside t node m f-is h = rw f-is (h, tt)
 
 pub node_inside : (t : List ℕ) (node : ℕ) → node ≤ node + 1 + length t / 24

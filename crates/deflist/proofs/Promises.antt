@@ -1,5 +1,8 @@
 -- Two answers of a public function that meet its promise are equal. Each promise is an equation, so each law is fields'
 -- `coincide`; a promise that holds for all names and indices is used at one of them. Assumes nothing.
+use Rattle.std.specs.Prelude.{Result}
+use Rattle.deflist.specs.declared.Fault.{Fault}
+use Rattle.deflist.specs.declared.Counts.{Counts}
 use mathlib.Core.Path.{◌≡◌}
 use mathlib.Core.Bool.{Bool}
 use mathlib.Core.List.{List}
@@ -15,10 +18,9 @@ use Rattle.deflist.specs.Reading.{is_listed, kind_here, Inside, is_over, Exceeds
 use Rattle.deflist.specs.declared.Kind.{Kind}
 use Rattle.deflist.specs.declared.State.{State}
 use Rattle.deflist.specs.declared.Flat.{Flat}
-use Rattle.deflist.specs.declared.Judged.{Judged}
 
 -- of `judge`; its second promise only bounds what the first determines
-pub judge_one : (names t : List ℕ) (node : ℕ) {r s : Judged}
+pub judge_one : (names t : List ℕ) (node : ℕ) {r s : Result Counts Fault}
     → r ≡ told (limited (node_of node t) (written names node t)) → Inside (node + 1 + length t / record_bytes) r
     → s ≡ told (limited (node_of node t) (written names node t)) → Inside (node + 1 + length t / record_bytes) s
     → r ≡ s

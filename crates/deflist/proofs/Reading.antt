@@ -4,6 +4,7 @@
 -- for `/` (`Slashing`), counting (`Counting`), counting up to a limit (`Limiting`) and stepping over n parameters
 -- (`Skipping`). None of them reads names or indices, so their promises hold for all; each has its start, on and end.
 -- Assumes nothing.
+use Rattle.std.specs.Prelude.{None, Some}
 use mathlib.Core.Path.{◌≡◌, refl, sym, ap, ◌∙◌}
 use mathlib.Core.Bool.{Bool, true, false}
 use mathlib.Core.List.{List, [], ◌∷◌, ◌++◌}
@@ -15,17 +16,22 @@ use lib.Dec.{eqb, leb}
 use borrow.Author.Tests.{le-leb, leb-true, lt-ltb, le-ltb}
 use Rattle.fields.proofs.Basics.{and_left, and_right, never}
 use Rattle.fields.proofs.Fields.{tail_part}
-use Rattle.forest.specs.Forest.{Node, size_of, node_of, span_of, forest}
+use Rattle.forest.specs.Forest.{Node, size_of, node_of, span_of, rest_of, forest}
 use Rattle.forest.specs.Names.{name_of}
-use Rattle.forest.proofs.Stretch.{forest_none, forest_tree, rest_part, record_or_none}
+use Rattle.forest.specs.Nodes.{NextNode}
+use Rattle.std.specs.Prelude.{Option, None, Some}
+use denote.Ref.{Bor}
+use Rattle.deflist.specs.Params.{NextParam}
+use Rattle.std.specs.Iterator.{Drains}
+use Rattle.forest.proofs.Drained.{drained}
+use Rattle.deflist.specs.declared.Params.{Params}
+use Rattle.forest.proofs.Stretch.{forest_none, forest_tree, rest_part, record_or_none, length_rest}
 use Rattle.soundness.specs.Kinds.{parameter, class_of}
 use Rattle.deflist.specs.Written.{Param, node_in, kind_in, param, param_of, params_in, kind_at}
 use Rattle.deflist.specs.Unpack.{is_slash, slash_from, first_slash, written_at}
 use Rattle.deflist.specs.Reading.{is_listed, kind_here, SlashAt, is_over, Exceeds, Skips}
-use Rattle.deflist.specs.declared.Written.{Written}
 use Rattle.deflist.specs.declared.Kind.{Kind}
 use Rattle.deflist.specs.declared.Kind.TheVariants.{Normal, NoArgs, Slash, Args, KwArgs}
-use Rattle.deflist.specs.declared.WrittenPlace.TheVariants.{AtWritten, NoWritten}
 
 -- the record and the kind of the parameter that a record is
 pub node_in_lem : (ns : List ℕ) (r : Node) → node_in (param_of ns r) ≡ r
@@ -55,6 +61,18 @@ pub listed_long : (t : List ℕ) → is_listed t ≡ true → 24 ≤ length t
 unfolding is_listed
 listed_long t h = leb-true 24 (length t) (and_left _ _ h)
 
+-- a walk over parameters gives what a walk over nodes gives where a parameter begins
+pub gives_param : (s t : Params) (r : Option (ℕ × Bor (List ℕ))) {l : Bool} → l ≡ is_listed s.nodes.left.now
+    → l ≡ true → NextNode s.nodes r t.nodes → NextParam s r t
+gives_param s t None l-is l-yes short = absurd (omega (arith, listed_long s.nodes.left.now (sym l-is ∙ l-yes)))
+gives_param s t (Some x) l-is l-yes given = record {
+  index = given.index;
+  stretch = given.stretch;
+  listed = rw given.stretch (sym l-is ∙ l-yes);
+  next = given.next;
+  rest = given.rest;
+}
+
 -- what is left after it is shorter
 pub rest_less : (t : List ℕ) {l : Bool} {e : ℕ} → l ≡ is_listed t → l ≡ true → e ≡ span_of t
     → length (take (length t - e) (drop e t)) < length t
@@ -68,13 +86,31 @@ list_end ns i t h =
     let no : eqb (class_of (node_of 0 t).kind) parameter ≡ false = rw (le-leb 24 (length t) big) at h in
     rw (forest_tree i t big, no) refl
 
+pub list_next : (ns : List ℕ) (i : ℕ) (t : List ℕ) {next : ℕ} {after : List ℕ} → is_listed t ≡ true
+    → next ≡ i + span_of t / 24 → after ≡ rest_of t
+    → params_in ns (forest i t) ≡ param_of ns (node_of i t) ∷ params_in ns (forest next after)
+unfolding params_in is_listed
+list_next ns i t h next-is after-is =
+    let yes : eqb (class_of (node_of 0 t).kind) parameter ≡ true = and_right (leb 24 (length t)) _ h in
+    rw (forest_tree i t (listed_long t h), yes, next-is, after-is) refl
+
+-- the same, cut as code cuts it
 pub list_on : (ns : List ℕ) (i : ℕ) (t : List ℕ) {e : ℕ} → is_listed t ≡ true → e ≡ span_of t
     → params_in ns (forest i t) ≡ param_of ns (node_of i t)
     ∷ params_in ns (forest (i + e / 24) (take (length t - e) (drop e t)))
-unfolding params_in is_listed
-list_on ns i t {e} h e-is =
-    let yes : eqb (class_of (node_of 0 t).kind) parameter ≡ true = and_right (leb 24 (length t)) _ h in
-    rw (forest_tree i t (listed_long t h), yes, rest_part e t e-is, e-is) refl
+list_on ns i t {e} h e-is = list_next ns i t h (ap (λ (n : ℕ). i + n / 24) e-is) (rest_part e t e-is)
+
+-- LAW: a walk gives as many parameters as the list has, whatever the names and the index
+pub params_counted : (ns : List ℕ) (i : ℕ) (xs : List (ℕ × Bor (List ℕ))) (s : Params) → Drains NextParam s xs
+    → length xs ≡ length (params_in ns (forest i s.nodes.left.now))
+params_counted ns i xs s given =
+    drained NextParam (λ (j : ℕ) (u : Params). length (params_in ns (forest j u.nodes.left.now)))
+    (λ j u v none. ap length (list_end ns j u.nodes.left.now none))
+    (λ j u x v on. (
+      j + span_of u.nodes.left.now / 24,
+      ap length (list_next ns j u.nodes.left.now (rw on.stretch at on.listed) refl (rw on.stretch at on.rest)),
+    ))
+    xs i s given
 
 -- what is at a place of a list
 pub record Next {A : Type 0} (w : List A) (n : ℕ) (p : A) (ps : List A) : Type 0 where
@@ -105,14 +141,13 @@ pub read_start : (ns : List ℕ) (i : ℕ) (t : List ℕ) → Reading ns (params
 read_start ns i t = record { upto = omega arith; rest = refl }
 
 module _ {ns : List ℕ} {w : List Param} {n i : ℕ} {left : List ℕ} (r : Reading ns w n i left) where
-  pub read_here : {e : ℕ} → is_listed left ≡ true → e ≡ span_of left
-      → Next w n (param_of ns (node_of i left))
-      (params_in ns (forest (i + e / 24) (take (length left - e) (drop e left))))
-  read_here h e-is = next n w (r.rest ∙ list_on ns i left h e-is)
+  module _ (h : is_listed left ≡ true) {j : ℕ} {after : List ℕ} (j-is : j ≡ i + span_of left / 24)
+      (after-is : after ≡ rest_of left) where
+    pub read_here : Next w n (param_of ns (node_of i left)) (params_in ns (forest j after))
+    read_here = next n w (r.rest ∙ list_next ns i left h j-is after-is)
 
-  pub read_on : {e : ℕ} → is_listed left ≡ true → e ≡ span_of left
-      → Reading ns w (n + 1) (i + e / 24) (take (length left - e) (drop e left))
-  read_on h e-is = let x = read_here h e-is in record { upto = omega (arith, x.within); rest = x.rest }
+    pub read_on : Reading ns w (n + 1) j after
+    read_on = let x = read_here in record { upto = omega (arith, x.within); rest = x.rest }
 
   pub read_end : is_listed left ≡ false → drop n w ≡ []
   read_end h = r.rest ∙ list_end ns i left h
@@ -142,48 +177,36 @@ slash_start kids = record {
 }
 
 module _ {kids left : List ℕ} {n : ℕ} (s : Slashing kids left n) where
-  module _ {l : Bool} (l-is : l ≡ is_listed left) where
-    slash_one : l ≡ true → {e : ℕ} → e ≡ span_of left → (ns : List ℕ) (i : ℕ)
-        → slash_from n (param_of ns (node_of (s.from ns i) left)
-        ∷ params_in ns (forest (s.from ns i + e / 24) (take (length left - e) (drop e left))))
-        ≡ first_slash (params_in ns (forest i kids))
-    slash_one l-yes e-is ns i = ap (slash_from n)
-        (sym ((s.reads ns i).rest ∙ list_on ns (s.from ns i) left (sym l-is ∙ l-yes) e-is)) ∙ s.same ns i
+  module _ (listed : is_listed left ≡ true) {k : Kind} (k_is : k ≡ kind_here left) {b : Bool} (b_is : b ≡ is_slash k)
+    where
+      tested : (ns : List ℕ) (i : ℕ) → is_slash (kind_in (param_of ns (node_of (s.from ns i) left))) ≡ b
+      tested ns i = ap is_slash (kind_in_lem ns (s.from ns i) left ∙ sym k_is) ∙ sym b_is
 
-    pub slash_here : l ≡ true → {k : Kind} {b : Bool} → k ≡ kind_here left → b ≡ is_slash k → b ≡ true
-        → (ns : List ℕ) (i : ℕ) → AtWritten (written_at n) ≡ first_slash (params_in ns (forest i kids))
-    unfolding slash_from
-    slash_here l-yes k_is b_is b-yes ns i =
-        let hit : is_slash (kind_in (param_of ns (node_of (s.from ns i) left)))
-        ≡ true = ap is_slash (kind_in_lem ns (s.from ns i) left ∙ sym k_is) ∙ sym b_is ∙ b-yes in
-        rw hit at (slash_one l-yes refl ns i)
+      slash_one : {after : List ℕ} → after ≡ rest_of left → (ns : List ℕ) (i : ℕ)
+          → slash_from n (param_of ns (node_of (s.from ns i) left)
+          ∷ params_in ns (forest (s.from ns i + span_of left / 24) after))
+          ≡ first_slash (params_in ns (forest i kids))
+      slash_one after-is ns i = ap (slash_from n)
+          (sym ((s.reads ns i).rest ∙ list_next ns (s.from ns i) left listed refl after-is)) ∙ s.same ns i
 
-    pub slash_on : l ≡ true → {k : Kind} {b : Bool} {e : ℕ} → k ≡ kind_here left → b ≡ is_slash k → b ≡ false
-        → e ≡ span_of left → {m : Written} → m ≡ written_at (n + 1)
-        → Slashing kids (take (length left - e) (drop e left)) m.0
-    unfolding slash_from
-    slash_on l-yes {k} {b} {e} k_is b_is b-no e-is m_is =
-        let yes : is_listed left ≡ true = sym l-is ∙ l-yes in
-        rw m_is (record {
-          room = simp (length-take, length-drop) (omega (arith, s.room, listed_long left yes));
-          from = λ ns i. s.from ns i + e / 24;
-          reads = λ ns i. read_on (s.reads ns i) yes e-is;
-          same = λ ns i.
-              let miss : is_slash (kind_in (param_of ns (node_of (s.from ns i) left)))
-              ≡ false = ap is_slash (kind_in_lem ns (s.from ns i) left ∙ sym k_is) ∙ sym b_is ∙ b-no in
-              rw (read_on (s.reads ns i) yes e-is).rest (rw miss at (slash_one l-yes e-is ns i));
-        })
+      pub slash_at : b ≡ true → SlashAt kids (Some (written_at n))
+      unfolding slash_from
+      slash_at b-yes = record { first = λ ns i. rw (tested ns i ∙ b-yes) at (slash_one refl ns i) }
 
-    pub slash_end : l ≡ false → SlashAt kids NoWritten
-    unfolding slash_from
-    slash_end l-no = record { first = λ ns i. rw (read_end (s.reads ns i) (sym l-is ∙ l-no)) at (s.same ns i) }
+      pub slash_on : b ≡ false → {after : List ℕ} → after ≡ rest_of left → Slashing kids after (n + 1)
+      unfolding slash_from
+      slash_on b-no after-is = record {
+        room = omega (arith, s.room, ap length after-is, length_rest left, listed_long left listed);
+        from = λ ns i. s.from ns i + span_of left / 24;
+        reads = λ ns i. read_on (s.reads ns i) listed refl after-is;
+        same = λ ns i.
+            rw (read_on (s.reads ns i) listed refl after-is).rest
+            (rw (tested ns i ∙ b-no) at (slash_one after-is ns i));
+      }
 
--- the same of a position that is a struct
-pub slash_at : {kids left : List ℕ} (w : Written) → Slashing kids left w.0 → {l : Bool} → l ≡ is_listed left
-    → l ≡ true → {k : Kind} {b : Bool} → k ≡ kind_here left → b ≡ is_slash k → b ≡ true
-    → SlashAt kids (AtWritten w)
-slash_at w s l-is l-yes k_is b_is b-yes =
-    record { first = λ ns i. slash_here s l-is l-yes k_is b_is b-yes ns i }
+  pub slash_end : is_listed left ≡ false → SlashAt kids None
+  unfolding slash_from
+  slash_end none = record { first = λ ns i. rw (read_end (s.reads ns i) none) at (s.same ns i) }
 
 -- Counting: n parameters are read, whatever the names and the index
 pub record Counting (kids left : List ℕ) (n : ℕ) : Type 0 where
@@ -194,19 +217,17 @@ pub record Counting (kids left : List ℕ) (n : ℕ) : Type 0 where
 pub count_start : (kids : List ℕ) → Counting kids kids 0
 count_start kids = record { room = omega arith; from = λ ns i. i; reads = λ ns i. read_start ns i kids }
 
-module _ {kids left : List ℕ} {n : ℕ} (s : Counting kids left n) {l : Bool} (l-is : l ≡ is_listed left) where
-  pub count_on : l ≡ true → {e : ℕ} → e ≡ span_of left → Counting kids (take (length left - e) (drop e left)) (n + 1)
-  count_on l-yes {e} e-is =
-      let yes : is_listed left ≡ true = sym l-is ∙ l-yes in
-      record {
-        room = simp (length-take, length-drop) (omega (arith, s.room, listed_long left yes));
-        from = λ ns i. s.from ns i + e / 24;
-        reads = λ ns i. read_on (s.reads ns i) yes e-is;
-      }
+module _ {kids left : List ℕ} {n : ℕ} (s : Counting kids left n) where
+  pub count_on : is_listed left ≡ true → {after : List ℕ} → after ≡ rest_of left → Counting kids after (n + 1)
+  count_on listed after-is = record {
+    room = omega (arith, s.room, ap length after-is, length_rest left, listed_long left listed);
+    from = λ ns i. s.from ns i + span_of left / 24;
+    reads = λ ns i. read_on (s.reads ns i) listed refl after-is;
+  }
 
-  pub count_all : l ≡ false → (ns : List ℕ) (i : ℕ) → n ≡ length (params_in ns (forest i kids))
-  count_all l-no ns i =
-      let none_left = read_end (s.reads ns i) (sym l-is ∙ l-no) in
+  pub count_all : is_listed left ≡ false → (ns : List ℕ) (i : ℕ) → n ≡ length (params_in ns (forest i kids))
+  count_all none ns i =
+      let none_left = read_end (s.reads ns i) none in
       omega (arith, (s.reads ns i).upto, length-drop n (params_in ns (forest i kids)), ap length none_left)
 
 -- The same up to a limit: while the list goes on, it has at least one more than n
@@ -237,14 +258,15 @@ module _ {most : ℕ} {kids left : List ℕ} {n : ℕ} (s : Limiting most kids l
     pub limit_over : l ≡ true → most ≤ n → Exceeds most kids true
     limit_over l-yes full = record {
       says = λ ns i.
-          let here = read_here (s.counts.reads ns i) (sym l-is ∙ l-yes) refl in
+          let here = read_here (s.counts.reads ns i) (sym l-is ∙ l-yes) refl refl in
           sym (lt-ltb most (length (params_in ns (forest i kids))) (omega (arith, full, here.within)));
     }
 
     pub limit_on : l ≡ true → n < most → {next : List ℕ} → next ≡ drop (span_of left) left
         → Limiting most kids next (n + 1)
+    unfolding rest_of
     limit_on l-yes more next_is = record {
-      counts = rw (next_is ∙ sym (after_any left refl)) (count_on s.counts l-is l-yes refl);
+      counts = count_on s.counts (sym l-is ∙ l-yes) next_is;
       few = omega (arith, more);
     }
 
@@ -252,7 +274,7 @@ module _ {most : ℕ} {kids left : List ℕ} {n : ℕ} (s : Limiting most kids l
     limit_end l-no = record {
       says = λ ns i.
           sym (le-ltb most (length (params_in ns (forest i kids)))
-          (omega (arith, s.few, count_all s.counts l-is l-no ns i)));
+          (omega (arith, s.few, count_all s.counts (sym l-is ∙ l-no) ns i)));
     }
 
 -- what follows a parameter is shorter
@@ -285,6 +307,7 @@ skip_start kids n = record {
 module _ {kids : List ℕ} {n at i : ℕ} (s : Skipping kids n at i) where
   pub skip_on : i < n → {e : ℕ} → e ≡ span_of (take (length kids - at) (drop at kids))
       → Skipping kids n (at + e) (i + 1)
+  unfolding rest_of
   skip_on h {e} e-is =
       let here : e ≡ span_of (drop at kids) = e-is ∙ ap span_of (tail_part at kids) in
       let size : e ≡ min (24 * max 1 (size_of (drop at kids))) (length kids - at) = here
@@ -296,11 +319,12 @@ module _ {kids : List ℕ} {n at i : ℕ} (s : Skipping kids n at i) where
         reads = λ ns j most.
             let listed : is_listed (drop at kids) ≡ true = read_listed (s.reads ns j most) (omega arith) in
             let long : 24 ≤ length kids - at = rw length-drop at (listed_long (drop at kids) listed) in
-            let index : j + (at + e) / 24 ≡ j + at / 24 + e / 24 = omega (arith, s.whole (omega arith)) in
-            let left : drop (at + e) kids
-            ≡ take (length (drop at kids) - e) (drop e (drop at kids)) = sym
-            (tail_part e (drop at kids) ∙ drop-drop e at kids) in
-            rw (index, left) (read_on (s.reads ns j most) listed here);
+            let index : j + (at + e) / 24 ≡ j + at / 24 + span_of (drop at kids) / 24 =
+            ap (λ (m : ℕ). j + (at + m) / 24) here
+            ∙ omega (arith, s.whole (omega arith)) in
+            let left : drop (at + e) kids ≡ rest_of (drop at kids) = ap (λ (m : ℕ). drop (at + m) kids) here
+            ∙ sym (drop-drop (span_of (drop at kids)) at kids) in
+            read_on (s.reads ns j most) listed index left;
       }
 
   pub skip_end : n ≤ i → Skips kids n at

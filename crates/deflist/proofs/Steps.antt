@@ -3,6 +3,7 @@
 -- state and kind). So a fine check always gives the next state (`step_on`, `run_on_lem`), which is clear again
 -- (`clear_on`), and the internal errors have no way to arise. A refusal stops the walk (`run_stop`, `run_again`). Each
 -- parameter adds at most one to what is counted (`bounded_on`). Assumes nothing.
+use Rattle.std.specs.Prelude.{None, Option, Some, ℕ}
 use mathlib.Core.Path.{◌≡◌, refl}
 use mathlib.Core.Bool.{Bool, true, false}
 use mathlib.Core.List.{List, [], ◌∷◌, ◌++◌}
@@ -12,8 +13,6 @@ use lib.ListN.{length}
 use lib.Dec.{eqb}
 use Rattle.fields.proofs.Basics.{never}
 use Rattle.fields.specs.Choice.{if'}
-use Rattle.forest.specs.declared.Found.{Found}
-use Rattle.forest.specs.declared.Found.TheVariants.{At, Nothing}
 use Rattle.deflist.specs.Written.{Param, node_in, kind_in}
 use Rattle.deflist.specs.Unpack.{written_at, flat_at, counts, rule, firstly, repeats, check, start}
 use Rattle.deflist.specs.Unpack.{next_state, next_star, more_positional, count, advance, on, stop}
@@ -26,11 +25,7 @@ use Rattle.deflist.specs.declared.State.TheVariants.{Normal as BeforeSlash, Seen
 use Rattle.deflist.specs.declared.Check.{Check}
 use Rattle.deflist.specs.declared.Check.TheVariants.{Fine, Broken, Repeated}
 use Rattle.deflist.specs.declared.Written.{Written}
-use Rattle.deflist.specs.declared.WrittenPlace.{WrittenPlace}
-use Rattle.deflist.specs.declared.WrittenPlace.TheVariants.{NoWritten}
 use Rattle.deflist.specs.declared.Flat.{Flat}
-use Rattle.deflist.specs.declared.FlatPlace.{FlatPlace}
-use Rattle.deflist.specs.declared.FlatPlace.TheVariants.{AtFlat, NoFlat}
 use Rattle.deflist.specs.declared.Counts.{Counts}
 use Rattle.deflist.specs.declared.Unpacking.{Unpacking}
 
@@ -41,14 +36,14 @@ pub repeated≢fine : {P : Type 0} {i : ℕ} → Repeated i ≡ Fine → P
 repeated≢fine e = never (cc)
 
 -- what cannot be there yet in a state
-abbrev pub Clear : State → WrittenPlace → Counts → Type 0
-Clear BeforeSlash star c = (star ≡ NoWritten) × (c.args ≡ NoFlat) × (c.kwargs ≡ NoFlat)
-Clear SeenSlash star c = (star ≡ NoWritten) × (c.args ≡ NoFlat) × (c.kwargs ≡ NoFlat)
-Clear SeenStar star c = c.kwargs ≡ NoFlat
+abbrev pub Clear : State → Option Written → Counts → Type 0
+Clear BeforeSlash star c = (star ≡ None) × (c.args ≡ None) × (c.kwargs ≡ None)
+Clear SeenSlash star c = (star ≡ None) × (c.args ≡ None) × (c.kwargs ≡ None)
+Clear SeenStar star c = c.kwargs ≡ None
 Clear SeenStarStar star c = Unit {0}
 
 -- a parameter that keeps its rule finds its place free
-free : (s : State) (o : Bool) (star : WrittenPlace) (c : Counts) (i : Written) (k : Kind) → Clear s star c
+free : (s : State) (o : Bool) (star : Option Written) (c : Counts) (i : Written) (k : Kind) → Clear s star c
     → rule s o k ≡ Fine
     → ((v : Unpacking) → v.index_of_star ≡ star → v.counts ≡ c → keep v i k ≡ on (advance v i k))
     × Clear (next_state s k) (next_star star i k) (count s c k)
@@ -78,9 +73,9 @@ abbrev pub Cleared : Unpacking → Type 0
 Cleared u = Clear u.state u.index_of_star u.counts
 
 -- a fine check passes 11 and the rule of the kind
-check_rule : (f : Found) (c : Check) → firstly f c ≡ Fine → c ≡ Fine
-check_rule (At i) c e = repeated≢fine e
-check_rule Nothing c e = e
+check_rule : (f : Option ℕ) (c : Check) → firstly f c ≡ Fine → c ≡ Fine
+check_rule (Some i) c e = repeated≢fine e
+check_rule None c e = e
 
 module _ (before : List Param) (u : Unpacking) (p : Param) (ps : List Param) where
   pub step_stop : {n : ℕ} → check before u.state u.seen_optional p ≡ Broken n → step before u p ≡ stop n
@@ -127,14 +122,14 @@ pub clear_start : (only : Flat) → Cleared (start only)
 unfolding start
 clear_start only = go (eqb only.0 0)
   where
-    go : (b : Bool) → Clear (if' b (λ _. SeenSlash) (λ _. BeforeSlash)) NoWritten
-        (counts (flat_at 0) only NoFlat NoFlat (flat_at 0))
+    go : (b : Bool) → Clear (if' b (λ _. SeenSlash) (λ _. BeforeSlash)) None
+        (counts (flat_at 0) only None None (flat_at 0))
     go true = (refl, refl, refl)
     go false = (refl, refl, refl)
 
-place_more : (m : ℕ) (p : FlatPlace) → PlaceBelow m p → PlaceBelow (m + 1) p
-place_more m NoFlat h = tt
-place_more m (AtFlat i) h = omega arith
+place_more : (m : ℕ) (p : Option Flat) → PlaceBelow m p → PlaceBelow (m + 1) p
+place_more m None h = tt
+place_more m (Some i) h = omega arith
 
 positional_more : (s : State) (m : ℕ) (n : Flat) → n.0 ≤ m → (more_positional s n).0 ≤ m + 1
 positional_more BeforeSlash m n h = omega arith

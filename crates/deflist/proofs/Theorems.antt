@@ -2,6 +2,8 @@
 -- stays clear (Steps' `clear_on`), and the last rule accepts or refuses (`at_end`). And what is counted is no more than
 -- the list is long (`accepted_bounded`), so that "Too many parameters" (def.rs:171) and the unwraps (280, 305, 346)
 -- cannot fire in a table of 2,100 nodes. Both are by induction on the list, for any state before it. Assumes nothing.
+use Rattle.std.specs.Prelude.{None, Ok, Option, Some}
+use Rattle.deflist.specs.declared.Written.{Written}
 use mathlib.Core.Path.{◌≡◌, refl, sym, ap, ◌∙◌}
 use mathlib.Core.Bool.{Bool, true, false}
 use mathlib.Core.List.{List, [], ◌∷◌, ◌++◌}
@@ -25,12 +27,9 @@ use Rattle.deflist.specs.declared.Kind.TheVariants.{Normal, NoArgs, Slash, Args,
 use Rattle.deflist.specs.declared.State.{State}
 use Rattle.deflist.specs.declared.Check.{Check}
 use Rattle.deflist.specs.declared.Check.TheVariants.{Fine, Broken, Repeated}
-use Rattle.deflist.specs.declared.WrittenPlace.{WrittenPlace}
-use Rattle.deflist.specs.declared.WrittenPlace.TheVariants.{AtWritten, NoWritten}
 use Rattle.deflist.specs.declared.Flat.{Flat}
 use Rattle.deflist.specs.declared.Counts.{Counts}
 use Rattle.deflist.specs.declared.Unpacking.{Unpacking}
-use Rattle.deflist.specs.declared.Judged.TheVariants.{Accepted}
 use Rattle.deflist.proofs.Reading.{list_end, list_on, listed_long}
 use Rattle.deflist.proofs.Steps.{Cleared, run_stop, run_again, run_on_lem, clear_on, clear_start, bounded_on}
 
@@ -60,11 +59,11 @@ after_star_lem (p ∷ slash r ∷ l) o h f g = g _ _ h
 after_star_lem (p ∷ args r n ∷ l) o h f g = g _ _ h
 after_star_lem (p ∷ kwargs r n ∷ l) o h f g = g _ _ h
 
-pub at_end : {P : Type 0} (w : List Param) (star : WrittenPlace) (c : Counts) {x : Outcome} → finish w star c ≡ x
+pub at_end : {P : Type 0} (w : List Param) (star : Option Written) (c : Counts) {x : Outcome} → finish w star c ≡ x
     → (accepted c ≡ x → P) → ((n : ℕ) (r : Node) → refused n r ≡ x → P) → P
 unfolding finish
-at_end w NoWritten c h f g = f h
-at_end w (AtWritten i) c h f g = after_star_lem (drop i.0 w) (accepted c) h f g
+at_end w None c h f g = f h
+at_end w (Some i) c h f g = after_star_lem (drop i.0 w) (accepted c) h f g
 
 run_internal : (before : List Param) (u : Unpacking) (l : List Param) {e : Internal} {r : Node} → Cleared u
     → run before u l ≡ internal e r → ⊥
@@ -124,7 +123,7 @@ slash_within i [] = omega arith
 slash_within i (p ∷ ps) = go (is_slash (kind_in p)) (slash_within (i + 1) ps)
   where
     go : (b : Bool) → (positional_only (slash_from (i + 1) ps)).0 ≤ i + 1 + length ps
-        → (positional_only (if' b (λ _. AtWritten (written_at i)) (λ _. slash_from (i + 1) ps))).0 ≤ i + suc (length ps)
+        → (positional_only (if' b (λ _. Some (written_at i)) (λ _. slash_from (i + 1) ps))).0 ≤ i + suc (length ps)
     go true h = omega arith
     go false h = omega arith
 
@@ -192,7 +191,7 @@ records_few most kids h = record {
 }
 
 -- what code returns as accepted is accepted
-pub told_accepted : (o : Outcome) {c : Counts} → told o ≡ Accepted c → o ≡ accepted c
+pub told_accepted : (o : Outcome) {c : Counts} → told o ≡ Ok c → o ≡ accepted c
 told_accepted (accepted c) e = cc
 told_accepted (refused n r) e = never (cc)
 told_accepted (repeated i r) e = never (cc)
@@ -229,7 +228,7 @@ only_start : (only : Flat) → (start only).counts.num_positional_only ≡ only
 unfolding start
 only_start only = refl
 
-slash_none : first_slash [] ≡ NoWritten
+slash_none : first_slash [] ≡ None
 unfolding slash_from
 slash_none = refl
 

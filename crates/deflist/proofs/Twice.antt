@@ -2,6 +2,8 @@
 -- the left and stops at the first name that it has seen (`run_repeated`). So among those that are read no name comes
 -- twice (`Fresh`), and the first that has the name is the only one (forest's `only_one`). Cite `written_twice`. Assumes
 -- nothing.
+use Rattle.std.specs.Prelude.{None, Option, Some, ℕ}
+use Rattle.deflist.specs.declared.Written.{Written}
 use mathlib.Core.Path.{◌≡◌, refl, sym, ap, ◌∙◌}
 use mathlib.Core.Bool.{Bool, true, false}
 use mathlib.Core.List.{List, [], ◌∷◌, ◌++◌, append_assoc, append-nil}
@@ -10,8 +12,6 @@ use native.Mathlib.Omega.{arith}
 use lib.ListN.{drop}
 use Rattle.fields.proofs.Basics.{never}
 use Rattle.forest.specs.Forest.{Node, node_of, span_of, kids_of, rest_of, forest}
-use Rattle.forest.specs.declared.Found.{Found}
-use Rattle.forest.specs.declared.Found.TheVariants.{At, Nothing}
 use Rattle.fields.specs.Choice.{if'}
 use Rattle.table.specs.Numbers.{slash_first, duplicated_parameter, normal_after_kwargs, no_default_after_default}
 use Rattle.table.specs.Numbers.{star_after_star, multiple_slash, multiple_kwargs, star_last, no_normal_after_star}
@@ -28,8 +28,6 @@ use Rattle.deflist.specs.Twice.{index_of, NamedTwice}
 use Rattle.deflist.specs.declared.State.{State}
 use Rattle.deflist.specs.declared.Kind.{Kind}
 use Rattle.deflist.specs.declared.Kind.TheVariants.{Normal, NoArgs, Slash, Args, KwArgs}
-use Rattle.deflist.specs.declared.WrittenPlace.{WrittenPlace}
-use Rattle.deflist.specs.declared.WrittenPlace.TheVariants.{AtWritten, NoWritten}
 use Rattle.deflist.specs.declared.Check.{Check}
 use Rattle.deflist.specs.declared.Check.TheVariants.{Fine, Broken, Repeated}
 use Rattle.deflist.specs.declared.Counts.{Counts}
@@ -46,16 +44,16 @@ record Again (before l : List Param) (i : ℕ) (r : Node) : Type 0 where
   rest : List Param
   cut : l ≡ read ++ again ∷ rest
   here : node_in again ≡ r
-  found : repeats (before ++ read) again ≡ At i
+  found : repeats (before ++ read) again ≡ Some i
   fresh : Fresh repeats before read
 
 -- a parameter that passes its check repeats no name
-fine_new : (f : Found) (c : Check) → firstly f c ≡ Fine → f ≡ Nothing
-fine_new (At i) c e = never (cc)
-fine_new Nothing c e = refl
+fine_new : (f : Option ℕ) (c : Check) → firstly f c ≡ Fine → f ≡ None
+fine_new (Some i) c e = never (cc)
+fine_new None c e = refl
 
 -- a parameter that repeats a name: the first of the list, or one behind it
-again_here : (before : List Param) (p : Param) (ps : List Param) {i : ℕ} → repeats before p ≡ At i
+again_here : (before : List Param) (p : Param) (ps : List Param) {i : ℕ} → repeats before p ≡ Some i
     → Again before (p ∷ ps) i (node_in p)
 again_here before p ps e = record {
   read = [];
@@ -67,7 +65,7 @@ again_here before p ps e = record {
   fresh = tt;
 }
 
-again_later : (before : List Param) (p : Param) (ps : List Param) {i : ℕ} {r : Node} → repeats before p ≡ Nothing
+again_later : (before : List Param) (p : Param) (ps : List Param) {i : ℕ} {r : Node} → repeats before p ≡ None
     → Again (before ++ p ∷ []) ps i r → Again before (p ∷ ps) i r
 again_later before p ps new x = record {
   read = p ∷ x.read;
@@ -97,11 +95,11 @@ run_repeated before u (p ∷ ps) {i} {r} clear h = go (check before u.state u.se
         let both : repeated j (node_in p) ≡ repeated i r = sym (run_again before u p ps f) ∙ h in
         let same : j ≡ i = cc in
         let node : node_in p ≡ r = cc in
-        rw node at (again_here before p ps (found_repeated (repeats before p) _ _ (kind_in p) f ∙ ap At same))
+        rw node at (again_here before p ps (found_repeated (repeats before p) _ _ (kind_in p) f ∙ ap Some same))
 
 -- a name that is found again is one that the parameter has
-repeats_has : (before : List Param) (p : Param) {i : ℕ} → repeats before p ≡ At i
-    → (x : Name) × ((has_name x p ≡ true) × (first_same x before ≡ At i))
+repeats_has : (before : List Param) (p : Param) {i : ℕ} → repeats before p ≡ Some i
+    → (x : Name) × ((has_name x p ≡ true) × (first_same x before ≡ Some i))
 unfolding repeats has_name
 repeats_has before (normal r n d) e = (n, (same_bytes_refl n, e))
 repeats_has before (no_args r) e = never (cc)
@@ -211,15 +209,15 @@ other_rule s o KwArgs = other_test (seen_star_star s) multiple_kwargs (omega ari
 other_check : (before : List Param) (s : State) (o : Bool) (p : Param) → Other (check before s o p)
 other_check before s o p = go (repeats before p)
   where
-    go : (f : Found) → Other (firstly f (rule s o (kind_in p)))
-    go (At i) = tt
-    go Nothing = other_rule s o (kind_in p)
+    go : (f : Option ℕ) → Other (firstly f (rule s o (kind_in p)))
+    go (Some i) = tt
+    go None = other_rule s o (kind_in p)
 
-other_end : (w : List Param) (star : WrittenPlace) (c : Counts) {n : ℕ} {r : Node} → finish w star c ≡ refused n r
+other_end : (w : List Param) (star : Option Written) (c : Counts) {n : ℕ} {r : Node} → finish w star c ≡ refused n r
     → ListNumber n
 unfolding finish
-other_end w NoWritten c h = never (cc)
-other_end w (AtWritten i) c {n} {r} h = go (drop i.0 w) h
+other_end w None c h = never (cc)
+other_end w (Some i) c {n} {r} h = go (drop i.0 w) h
   where
     seventeen : {m : Node} → refused star_last m ≡ refused n r → ListNumber n
     seventeen h = let same : n ≡ star_last = cc in after_eleven n (omega (arith, same)) (omega (arith, same))

@@ -2,12 +2,10 @@
 -- indices do not. These are definitions.
 -- Copyright 2018 The Starlark in Rust Authors. Copyright (c) Facebook, Inc. and its affiliates.
 -- Licensed under Apache-2.0; changed.
-use Rattle.std.specs.Prelude.{Bool, true, false, ◌||◌, List, [], ◌∷◌, ◌++◌, ℕ, ◌+◌, length, drop, eqb}
+use Rattle.std.specs.Prelude.{Bool, true, false, ◌||◌, List, [], ◌∷◌, ◌++◌, ℕ, ◌+◌, length, drop, eqb, None, Option, Some}
 use Rattle.fields.specs.Choice.{if'}
 use Rattle.forest.specs.Forest.{Node}
 use Rattle.forest.specs.Names.{same}
-use Rattle.forest.specs.declared.Found.{Found}
-use Rattle.forest.specs.declared.Found.TheVariants.{At, Nothing}
 use Rattle.table.specs.Numbers.{slash_first, normal_after_kwargs, no_default_after_default}
 use Rattle.table.specs.Numbers.{star_after_star, multiple_slash, multiple_kwargs, star_last, no_normal_after_star}
 use Rattle.deflist.specs.Written.{Name, Param, normal, no_args, slash, args, kwargs, node_in, kind_in}
@@ -18,11 +16,7 @@ use Rattle.deflist.specs.declared.State.TheVariants.{Normal as BeforeSlash, Seen
 use Rattle.deflist.specs.declared.Check.{Check}
 use Rattle.deflist.specs.declared.Check.TheVariants.{Fine, Broken, Repeated}
 use Rattle.deflist.specs.declared.Written.{Written}
-use Rattle.deflist.specs.declared.WrittenPlace.{WrittenPlace}
-use Rattle.deflist.specs.declared.WrittenPlace.TheVariants.{AtWritten, NoWritten}
 use Rattle.deflist.specs.declared.Flat.{Flat}
-use Rattle.deflist.specs.declared.FlatPlace.{FlatPlace}
-use Rattle.deflist.specs.declared.FlatPlace.TheVariants.{AtFlat, NoFlat}
 use Rattle.deflist.specs.declared.Counts.{Counts}
 use Rattle.deflist.specs.declared.Unpacking.{Unpacking}
 
@@ -60,15 +54,15 @@ has_name x (slash r) = false
 has_name x (args r n) = same n x
 has_name x (kwargs r n) = same n x
 
-unfoldable pub first_same : Name → List Param → Found
-first_same x [] = Nothing
-first_same x (p ∷ ps) = if' (has_name x p) (λ _. At (node_in p).at) (λ _. first_same x ps)
+unfoldable pub first_same : Name → List Param → Option ℕ
+first_same x [] = None
+first_same x (p ∷ ps) = if' (has_name x p) (λ _. Some (node_in p).at) (λ _. first_same x ps)
 
 -- check_param_name: the first earlier parameter whose name this one repeats; marks have none
-unfoldable pub repeats : List Param → Param → Found
+unfoldable pub repeats : List Param → Param → Option ℕ
 repeats before (normal r n d) = first_same n before
-repeats before (no_args r) = Nothing
-repeats before (slash r) = Nothing
+repeats before (no_args r) = None
+repeats before (slash r) = None
 repeats before (args r n) = first_same n before
 repeats before (kwargs r n) = first_same n before
 
@@ -101,9 +95,9 @@ rule s had_optional Args = star_rule s
 rule s had_optional KwArgs = kwargs_rule s
 
 -- 11, with the earlier parameter's node, before the rule of the kind
-abbrev pub firstly : Found → Check → Check
-firstly (At i) c = Repeated i
-firstly Nothing c = c
+abbrev pub firstly : Option ℕ → Check → Check
+firstly (Some i) c = Repeated i
+firstly None c = c
 
 abbrev pub check : List Param → State → Bool → Param → Check
 check before s had_optional p = firstly (repeats before p) (rule s had_optional (kind_in p))
@@ -123,15 +117,15 @@ next_optional had_optional Slash = had_optional
 next_optional had_optional Args = had_optional
 next_optional had_optional KwArgs = had_optional
 
-abbrev pub next_star : WrittenPlace → Written → Kind → WrittenPlace
+abbrev pub next_star : Option Written → Written → Kind → Option Written
 next_star star_index i (Normal default) = star_index
-next_star star_index i NoArgs = AtWritten i
+next_star star_index i NoArgs = Some i
 next_star star_index i Slash = star_index
 next_star star_index i Args = star_index
 next_star star_index i KwArgs = star_index
 
 -- num_positional, num_positional_only, args, kwargs, and the length of the flat list
-abbrev pub counts : Flat → Flat → FlatPlace → FlatPlace → Flat → Counts
+abbrev pub counts : Flat → Flat → Option Flat → Option Flat → Flat → Counts
 counts positional_count positional_only_count a k flat =
     record {
       num_positional = positional_count;
@@ -155,9 +149,9 @@ count s c (Normal default) =
 count s c NoArgs = c
 count s c Slash = c
 count s c Args =
-    counts c.num_positional c.num_positional_only (AtFlat c.flat) c.kwargs (one_more c.flat)
+    counts c.num_positional c.num_positional_only (Some c.flat) c.kwargs (one_more c.flat)
 count s c KwArgs =
-    counts c.num_positional c.num_positional_only c.args (AtFlat c.flat) (one_more c.flat)
+    counts c.num_positional c.num_positional_only c.args (Some c.flat) (one_more c.flat)
 
 unfoldable pub advance : Unpacking → Written → Kind → Unpacking
 advance u i k =
@@ -181,13 +175,13 @@ pub data Step : Type 0 where
   again : ℕ → Step
   broken : Internal → Step
 
-abbrev pub unless_written : WrittenPlace → Internal → Unpacking → Step
-unless_written NoWritten e u = on u
-unless_written (AtWritten i) e u = broken e
+abbrev pub unless_written : Option Written → Internal → Unpacking → Step
+unless_written None e u = on u
+unless_written (Some i) e u = broken e
 
-abbrev pub unless_flat : FlatPlace → Internal → Unpacking → Step
-unless_flat NoFlat e u = on u
-unless_flat (AtFlat i) e u = broken e
+abbrev pub unless_flat : Option Flat → Internal → Unpacking → Step
+unless_flat None e u = on u
+unless_flat (Some i) e u = broken e
 
 -- a parameter that keeps its rule: `*`, `*args` and `**kwargs` are an internal error if there was one
 abbrev pub keep : Unpacking → Written → Kind → Step
@@ -229,9 +223,9 @@ from_star (p ∷ []) fine = refused star_last (node_in p)
 from_star (p ∷ q ∷ ps) fine = normal_next q fine
 
 -- after the last parameter: w is the whole written list
-unfoldable pub finish : List Param → WrittenPlace → Counts → Outcome
-finish w NoWritten c = accepted c
-finish w (AtWritten i) c = from_star (drop i.0 w) (accepted c)
+unfoldable pub finish : List Param → Option Written → Counts → Outcome
+finish w None c = accepted c
+finish w (Some i) c = from_star (drop i.0 w) (accepted c)
 
 abbrev pub after : Step → Node → (Unpacking → Outcome) → Outcome
 after (on u) r next = next u
@@ -252,17 +246,17 @@ is_slash Slash = true
 is_slash Args = false
 is_slash KwArgs = false
 
-unfoldable pub slash_from : ℕ → List Param → WrittenPlace
-slash_from i [] = NoWritten
-slash_from i (p ∷ ps) = if' (is_slash (kind_in p)) (λ _. AtWritten (written_at i)) (λ _. slash_from (i + 1) ps)
+unfoldable pub slash_from : ℕ → List Param → Option Written
+slash_from i [] = None
+slash_from i (p ∷ ps) = if' (is_slash (kind_in p)) (λ _. Some (written_at i)) (λ _. slash_from (i + 1) ps)
 
-abbrev pub first_slash : List Param → WrittenPlace
+abbrev pub first_slash : List Param → Option Written
 first_slash l = slash_from 0 l
 
 -- num_positional_only: the written position of the first `/` is a flat index, since no mark can come before it
-abbrev pub positional_only : WrittenPlace → Flat
-positional_only NoWritten = flat_at 0
-positional_only (AtWritten i) = flat_at i.0
+abbrev pub positional_only : Option Written → Flat
+positional_only None = flat_at 0
+positional_only (Some i) = flat_at i.0
 
 -- the state in which a list begins, and all that is known then
 abbrev pub first_state : Flat → State
@@ -273,8 +267,8 @@ start positional_only_count =
     record {
       state = first_state positional_only_count;
       seen_optional = false;
-      index_of_star = NoWritten;
-      counts = counts (flat_at 0) positional_only_count NoFlat NoFlat (flat_at 0);
+      index_of_star = None;
+      counts = counts (flat_at 0) positional_only_count None None (flat_at 0);
     }
 
 -- DefParams::unpack: 10 first, then the parameters in turn

@@ -13,6 +13,7 @@ pub mod states;
 mod walk;
 
 ghost use Rattle.std.specs.Prelude.{◌≡◌, ◌+◌, ◌/◌, length};
+ghost use Rattle.std.specs.Iterator.{at_most};
 ghost use Rattle.forest.specs.Forest.{record_bytes, node_of, kids_of};
 ghost use Rattle.deflist.specs.Written.{written};
 ghost use Rattle.deflist.specs.Unpack.{unpack};
@@ -20,7 +21,7 @@ ghost use Rattle.deflist.specs.Limited.{limited};
 ghost use Rattle.deflist.specs.Told.{told};
 ghost use Rattle.deflist.specs.Reading.{Inside, Says};
 
-use forest::{Found, RECORD, marks};
+use forest::{Nodes, RECORD, marks};
 use table::{Span, numbers};
 
 // The most entries of a list, marks counted.
@@ -49,30 +50,42 @@ pub enum Kind {
 #[derive(Clone, Copy)]
 pub struct Written(pub usize);
 
-#[derive(Clone, Copy)]
-pub enum WrittenPlace {
-    AtWritten(Written),
-    NoWritten,
-}
-
 // An index in the flat list, marks omitted.
 #[derive(Clone, Copy)]
 pub struct Flat(pub usize);
-
-#[derive(Clone, Copy)]
-pub enum FlatPlace {
-    AtFlat(Flat),
-    NoFlat,
-}
 
 // What unpack counts in the flat list, and its length.
 #[derive(Clone, Copy)]
 pub struct Counts {
     pub num_positional: Flat,
     pub num_positional_only: Flat,
-    pub args: FlatPlace,
-    pub kwargs: FlatPlace,
+    pub args: Option<Flat>,
+    pub kwargs: Option<Flat>,
     pub flat: Flat,
+}
+
+// The parameters at the front of the nodes side by side in a stretch, each as Nodes gives it.
+#[derive(Clone, Copy)]
+pub struct Params<'a> {
+    pub nodes: Nodes<'a>,
+}
+
+impl<'a> Iterator for Params<'a> {
+    ghost use Rattle.deflist.specs.Params.{NextParam};
+
+    type Item = (usize, &'a [u8]);
+
+    ghost next_gives = { NextParam };
+
+    ghost remaining = { λ s. at_most (length s.nodes.left.now / record_bytes) };
+
+    #[inline(always)]
+    fn next(&mut self) -> Option<(usize, &'a [u8])> {
+        if !entry::listed(self.nodes.left) {
+            return None;
+        }
+        self.nodes.next()
+    }
 }
 
 // All that unpack keeps from one parameter to the next.
@@ -80,7 +93,7 @@ pub struct Counts {
 pub struct Unpacking {
     pub state: State,
     pub seen_optional: bool,
-    pub index_of_star: WrittenPlace,
+    pub index_of_star: Option<Written>,
     pub counts: Counts,
 }
 
@@ -98,21 +111,7 @@ pub struct Fault {
     pub number: u32,
     pub node: usize,
     pub span: Span,
-    pub earlier: Found,
-}
-
-// The result of one turn: the walk goes on, or stops at this parameter.
-#[derive(Clone, Copy)]
-pub enum Turn {
-    Passes,
-    Stops(Fault),
-}
-
-// The result of unpack.
-#[derive(Clone, Copy)]
-pub enum Judged {
-    Accepted(Counts),
-    Refused(Fault),
+    pub earlier: Option<usize>,
 }
 
 // The children of the first node of a stretch.
@@ -128,18 +127,13 @@ pub fn children(t: &[u8]) -> &[u8]
 
 // The written list of the node whose subtree is the stretch: 19 at that node if the list has more than MOST_PARAMETERS
 // entries, else what DefParams::unpack counts, or its first refusal.
-pub fn judge(names: &[u8], t: &[u8], node: u32) -> Judged
+pub fn judge(names: &[u8], t: &[u8], node: u32) -> Result<Counts, Fault>
     ensures value { result ≡
         told (limited (node_of node t.now) (written names.now node t.now)) }
     ensures inside { Inside (node + 1 + length t.now / record_bytes) result }
 {
     if list::has_more(children(t), MOST_PARAMETERS) {
-        return Judged::Refused(walk::fault(
-            numbers::TOO_MANY_PARAMETERS,
-            node as usize,
-            t,
-            Found::Nothing,
-        ));
+        return Err(walk::fault(numbers::TOO_MANY_PARAMETERS, node as usize, t, None));
     }
     if marks::SHORT <= forest::span(t) {
         return with_marks(names, t, node);
@@ -149,7 +143,7 @@ pub fn judge(names: &[u8], t: &[u8], node: u32) -> Judged
 }
 
 // The same with marks of the names. A list of at most MOST_PARAMETERS entries needs only SOME of them.
-fn with_marks(names: &[u8], t: &[u8], node: u32) -> Judged
+fn with_marks(names: &[u8], t: &[u8], node: u32) -> Result<Counts, Fault>
     ensures { Says (unpack (written names.now node t.now))
         (node + 1 + length t.now / record_bytes) result }
 {

@@ -1,36 +1,26 @@
 // The written list, read from the children of a def or lambda: each next parameter is found by stepping over the one
 // before it.
-ghost use Rattle.std.specs.Prelude.{◌≡◌, ◌+◌, ◌<◌, ◌≤◌, ◌^◌, length, drop};
+ghost use Rattle.std.specs.Prelude.{◌≡◌, ◌≤◌, length, drop};
 ghost use Rattle.forest.specs.Forest.{record_bytes, span_of};
-ghost use Rattle.deflist.specs.Unpack.{written_at};
 ghost use Rattle.deflist.specs.Reading.{SlashAt, is_over, Exceeds, Skips};
 
-use crate::{Written, WrittenPlace, entry};
-use forest::RECORD;
-
-// The next position in the written list.
-pub(crate) fn next(n: Written) -> Written
-    requires { n.0 + 1 < 2 ^ 64 }
-    ensures { result ≡ written_at (n.0 + 1) }
-{
-    Written(n.0 + 1)
-}
+use crate::{Params, Written, entry};
+use forest::{Nodes, RECORD};
 
 // The written position of the first `/`.
-pub(crate) fn first_slash(kids: &[u8]) -> WrittenPlace
+pub(crate) fn first_slash(kids: &[u8]) -> Option<Written>
     ensures { SlashAt kids.now result }
 {
-    let mut left = kids;
-    let mut i = Written(0);
-    while entry::listed(left) {
+    for (i, (_, left)) in (Params {
+        nodes: Nodes { at: 0, left: kids },
+    })
+    .enumerate()
+    {
         if entry::is_slash(entry::kind_of(left)) {
-            return WrittenPlace::AtWritten(i);
+            return Some(Written(i));
         }
-        let e = forest::span(left);
-        left = &left[e..];
-        i = next(i);
     }
-    WrittenPlace::NoWritten
+    None
 }
 
 // What follows the first node of a stretch. Most parameters are one record; with a branch for them the processor can
@@ -47,7 +37,8 @@ fn after(t: &[u8]) -> &[u8]
 }
 
 // Whether the list at the front of a stretch has more than `most` entries, marks counted. A stretch of at most `most`
-// records is not read, nor are the entries after the first one too many.
+// records is not read, nor are the entries after the first one too many. No `for` over Params, whose `next` has not the
+// branch of `after`, by which lists of one record each are read faster.
 pub fn has_more(kids: &[u8], most: usize) -> bool
     ensures value { result ≡ is_over most kids.now }
     ensures exceeds { Exceeds most kids.now result }
@@ -73,10 +64,8 @@ pub(crate) fn skip(kids: &[u8], n: Written) -> usize
     ensures { Skips kids.now n.0 result }
 {
     let mut at = 0;
-    let mut i = 0;
-    while i < n.0 {
+    for _ in 0..n.0 {
         at += forest::span(&kids[at..]);
-        i += 1;
     }
     at
 }

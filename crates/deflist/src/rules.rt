@@ -8,9 +8,7 @@ ghost use Rattle.deflist.specs.Unpack.{default_rule, normal_rule, star_rule, sla
 ghost use Rattle.deflist.specs.Unpack.{next_optional, next_star, start as start_of, positional_only};
 ghost use Rattle.deflist.specs.Reading.{is_named, is_normal};
 
-use crate::{
-    Check, Counts, Flat, FlatPlace, Kind, State, Unpacking, Written, WrittenPlace, states,
-};
+use crate::{Check, Counts, Flat, Kind, State, Unpacking, Written, states};
 use table::numbers;
 
 // Whether a parameter of a kind has a name.
@@ -130,12 +128,12 @@ pub(crate) fn next_optional(optional: bool, kind: Kind) -> bool
     }
 }
 
-pub(crate) fn next_star(star: WrittenPlace, i: Written, kind: Kind) -> WrittenPlace
+pub(crate) fn next_star(star: Option<Written>, i: Written, kind: Kind) -> Option<Written>
     ensures { result ≡ next_star star i kind }
 {
     match kind {
         Kind::Normal(_) => star,
-        Kind::NoArgs => WrittenPlace::AtWritten(i),
+        Kind::NoArgs => Some(i),
         Kind::Slash => star,
         Kind::Args => star,
         Kind::KwArgs => star,
@@ -144,12 +142,12 @@ pub(crate) fn next_star(star: WrittenPlace, i: Written, kind: Kind) -> WrittenPl
 
 // The count of positional-only parameters: the written position of `/` is a flat index, since no mark can come before
 // it.
-pub(crate) fn positional_only(slash: WrittenPlace) -> Flat
+pub(crate) fn positional_only(slash: Option<Written>) -> Flat
     ensures { result ≡ positional_only slash }
 {
     match slash {
-        WrittenPlace::AtWritten(i) => Flat(i.0),
-        WrittenPlace::NoWritten => Flat(0),
+        Some(i) => Flat(i.0),
+        None => Flat(0),
     }
 }
 
@@ -160,12 +158,12 @@ pub(crate) fn start(only: Flat) -> Unpacking
     Unpacking {
         state: states::first_state(only),
         seen_optional: false,
-        index_of_star: WrittenPlace::NoWritten,
+        index_of_star: None,
         counts: Counts {
             num_positional: Flat(0),
             num_positional_only: only,
-            args: FlatPlace::NoFlat,
-            kwargs: FlatPlace::NoFlat,
+            args: None,
+            kwargs: None,
             flat: Flat(0),
         },
     }

@@ -11,19 +11,17 @@ ghost use Rattle.deflist.specs.Written.{params_in, written};
 ghost use Rattle.deflist.specs.Unpack.{first_same, firstly, rule as rule_of, one_more, more_positional};
 ghost use Rattle.deflist.specs.Unpack.{count as count_of, advance as advance_of, run as run_of};
 ghost use Rattle.deflist.specs.Unpack.{start as start_of, unpack as unpack_of};
-ghost use Rattle.deflist.specs.declared.WrittenPlace.TheVariants.{AtWritten};
 ghost use Rattle.deflist.specs.Told.{fault as fault_of, turn_of};
 ghost use Rattle.deflist.specs.Reading.{kind_here, begins_with_slash, Says, Finishes, Earlier, Meets};
 
 use crate::{
-    Check, Counts, Fault, Flat, FlatPlace, Judged, Kind, State, Turn, Unpacking, Written,
-    WrittenPlace, entry, list, rules, states,
+    Check, Counts, Fault, Flat, Kind, Params, State, Unpacking, Written, entry, list, rules, states,
 };
-use forest::{Found, RECORD};
+use forest::{Nodes, RECORD};
 use table::{Entries, named, numbers};
 
 // The node of the first of n parameters that has this name; first is the node of the first record.
-fn earlier(names: &[u8], name: &[u8], kids: &[u8], first: usize, n: Written) -> Found
+fn earlier(names: &[u8], name: &[u8], kids: &[u8], first: usize, n: Written) -> Option<usize>
     requires { (record_bytes * first + length kids.now < 2 ^ 64) ×
         (n.0 ≤ length (params_in names.now (forest first kids.now))) }
     ensures { Earlier name.now
@@ -32,13 +30,13 @@ fn earlier(names: &[u8], name: &[u8], kids: &[u8], first: usize, n: Written) -> 
 {
     let found = named::first_named(Entries::Parameters, names, name, kids, n.0);
     match found {
-        Found::At(i) => Found::At(first + i),
-        Found::Nothing => Found::Nothing,
+        Some(i) => Some(first + i),
+        None => None,
     }
 }
 
 // A refusal at the first record of a stretch, with the node of an earlier parameter.
-pub(crate) fn fault(number: u32, node: usize, t: &[u8], earlier: Found) -> Fault
+pub(crate) fn fault(number: u32, node: usize, t: &[u8], earlier: Option<usize>) -> Fault
     ensures { result ≡ fault_of number (node_of node t.now) earlier }
 {
     Fault {
@@ -59,7 +57,7 @@ fn repeated(
     left: &[u8],
     kind: Kind,
     marks: &mut [u8],
-) -> Found
+) -> Option<usize>
     requires { (record_bytes * first + length kids.now < 2 ^ 64) ×
         (n.0 ≤ length (params_in names.now (forest first kids.now))) × (kind ≡ kind_here left.now) ×
         Known first_same marks.old (take n.0 (params_in names.now (forest first kids.now))) }
@@ -68,36 +66,41 @@ fn repeated(
         marks.new (first + length kids.now / record_bytes) result }
 {
     if !rules::is_named(kind) {
-        return Found::Nothing;
+        return None;
     }
     let name = forest::names::name(names, left);
     if !forest::marks::note(marks, name) {
-        return Found::Nothing;
+        return None;
     }
     earlier(names, name, kids, first, n)
 }
 
 // 11 (a repeated name) before the rule of the kind.
-fn check(found: Found, state: State, optional: bool, kind: Kind) -> Check
+fn check(found: Option<usize>, state: State, optional: bool, kind: Kind) -> Check
     ensures { result ≡ firstly found (rule_of state optional kind) }
 {
     match found {
-        Found::At(i) => Check::Repeated(i),
-        Found::Nothing => rules::rule(state, optional, kind),
+        Some(i) => Check::Repeated(i),
+        None => rules::rule(state, optional, kind),
     }
 }
 
 // The turn of the first parameter of a stretch: 11, then the rule of its kind.
-fn turn(found: Found, state: State, optional: bool, kind: Kind, node: usize, t: &[u8]) -> Turn
+fn turn(
+    found: Option<usize>,
+    state: State,
+    optional: bool,
+    kind: Kind,
+    node: usize,
+    t: &[u8],
+) -> Result<(), Fault>
     ensures { result ≡ turn_of (firstly found (rule_of state optional kind)) (node_of node t.now) }
 {
     let c = check(found, state, optional, kind);
     match c {
-        Check::Fine => Turn::Passes,
-        Check::Broken(number) => Turn::Stops(fault(number, node, t, Found::Nothing)),
-        Check::Repeated(i) => {
-            Turn::Stops(fault(numbers::DUPLICATED_PARAMETER, node, t, Found::At(i)))
-        }
+        Check::Fine => Ok(()),
+        Check::Broken(number) => Err(fault(number, node, t, None)),
+        Check::Repeated(i) => { Err(fault(numbers::DUPLICATED_PARAMETER, node, t, Some(i))) }
     }
 }
 
@@ -145,7 +148,7 @@ fn count(state: State, c: Counts, kind: Kind) -> Counts
         Kind::Args => Counts {
             num_positional: positional,
             num_positional_only: only,
-            args: FlatPlace::AtFlat(flat),
+            args: Some(flat),
             kwargs,
             flat: one_more(flat),
         },
@@ -153,7 +156,7 @@ fn count(state: State, c: Counts, kind: Kind) -> Counts
             num_positional: positional,
             num_positional_only: only,
             args,
-            kwargs: FlatPlace::AtFlat(flat),
+            kwargs: Some(flat),
             flat: one_more(flat),
         },
     }
@@ -176,9 +179,9 @@ fn advance(u: Unpacking, i: Written, kind: Kind) -> Unpacking
 }
 
 // 17 (`*` is last) and 18 (the entry after `*` is no Normal), for the bare `*` at a written position.
-fn after_star(kids: &[u8], first: usize, star: Written, counts: Counts) -> Judged
+fn after_star(kids: &[u8], first: usize, star: Written, counts: Counts) -> Result<Counts, Fault>
     requires { record_bytes * first + length kids.now < 2 ^ 64 }
-    ensures { Finishes kids.now first (AtWritten star) counts result }
+    ensures { Finishes kids.now first (Some star) counts result }
 {
     let at = list::skip(kids, star);
     let here = &kids[at..];
@@ -186,53 +189,52 @@ fn after_star(kids: &[u8], first: usize, star: Written, counts: Counts) -> Judge
     let next = &here[e..];
     let node = first + at / RECORD;
     if !entry::listed(next) {
-        return Judged::Refused(fault(numbers::STAR_LAST, node, here, Found::Nothing));
+        return Err(fault(numbers::STAR_LAST, node, here, None));
     }
     if rules::is_normal(entry::kind_of(next)) {
-        return Judged::Accepted(counts);
+        return Ok(counts);
     }
-    Judged::Refused(fault(
-        numbers::NO_NORMAL_AFTER_STAR,
-        node + e / RECORD,
-        next,
-        Found::Nothing,
-    ))
+    Err(fault(numbers::NO_NORMAL_AFTER_STAR, node + e / RECORD, next, None))
 }
 
 // After the last parameter.
-fn finish(kids: &[u8], first: usize, star: WrittenPlace, counts: Counts) -> Judged
+fn finish(kids: &[u8], first: usize, star: Option<Written>, counts: Counts) -> Result<Counts, Fault>
     requires { record_bytes * first + length kids.now < 2 ^ 64 }
     ensures { Finishes kids.now first star counts result }
 {
     match star {
-        WrittenPlace::AtWritten(i) => after_star(kids, first, i, counts),
-        WrittenPlace::NoWritten => Judged::Accepted(counts),
+        Some(i) => after_star(kids, first, i, counts),
+        None => Ok(counts),
     }
 }
 
 // The parameters in turn, of which `only` are positional only. Notes their names in the marks.
-fn run(names: &[u8], kids: &[u8], first: usize, only: Flat, marks: &mut [u8]) -> Judged
+fn run(
+    names: &[u8],
+    kids: &[u8],
+    first: usize,
+    only: Flat,
+    marks: &mut [u8],
+) -> Result<Counts, Fault>
     requires { record_bytes * first + length kids.now < 2 ^ 64 }
     ensures { Says (run_of [] (start_of only) (params_in names.now (forest first kids.now)))
         (first + length kids.now / record_bytes) result }
 {
     let mut u = rules::start(only);
-    let mut left = kids;
-    let mut at = first;
-    let mut n = Written(0);
-    while entry::listed(left) {
+    for (i, (at, left)) in (Params {
+        nodes: Nodes {
+            at: first,
+            left: kids,
+        },
+    })
+    .enumerate()
+    {
+        let n = Written(i);
         let kind = entry::kind_of(left);
         let found = repeated(names, kids, first, n, left, kind, marks);
         let state = u.state;
-        let turned = turn(found, state, u.seen_optional, kind, at, left);
-        if let Turn::Stops(f) = turned {
-            return Judged::Refused(f);
-        }
+        turn(found, state, u.seen_optional, kind, at, left)?;
         u = advance(u, n, kind);
-        n = list::next(n);
-        let e = forest::span(left);
-        at += e / RECORD;
-        left = &left[e..];
     }
     let star = u.index_of_star;
     let counts = u.counts;
@@ -247,13 +249,13 @@ fn slash_first(kids: &[u8]) -> bool
 }
 
 // 10 first, then the parameters in turn; first is the node of the first record.
-fn unpack(names: &[u8], kids: &[u8], first: usize, marks: &mut [u8]) -> Judged
+fn unpack(names: &[u8], kids: &[u8], first: usize, marks: &mut [u8]) -> Result<Counts, Fault>
     requires { record_bytes * first + length kids.now < 2 ^ 64 }
     ensures { Says (unpack_of (params_in names.now (forest first kids.now)))
         (first + length kids.now / record_bytes) result }
 {
     if slash_first(kids) {
-        return Judged::Refused(fault(numbers::SLASH_FIRST, first, kids, Found::Nothing));
+        return Err(fault(numbers::SLASH_FIRST, first, kids, None));
     }
     let slash = list::first_slash(kids);
     run(names, kids, first, rules::positional_only(slash), marks)
@@ -261,7 +263,7 @@ fn unpack(names: &[u8], kids: &[u8], first: usize, marks: &mut [u8]) -> Judged
 
 // DefParams::unpack of the written list of the node whose subtree is the stretch: the counts, or the first refusal.
 // Notes names in the marks; what the marks hold before does not change the answer.
-pub(crate) fn judge(names: &[u8], t: &[u8], node: u32, marks: &mut [u8]) -> Judged
+pub(crate) fn judge(names: &[u8], t: &[u8], node: u32, marks: &mut [u8]) -> Result<Counts, Fault>
     ensures { Says (unpack_of (written names.now node t.now))
         (node + 1 + length t.now / record_bytes) result }
 {

@@ -3,6 +3,8 @@
 -- (`finish_tail`), and the modes (`modes_either`, `modes_pos`). For each there is a law without `/` and one with it.
 -- Ordinary parameters only add to the counts, by induction on them (`counts_ordinary` and its like); the star and
 -- `**kwargs` are single steps, so they compute. Assumes nothing.
+use Rattle.std.specs.Prelude.{None, Option, Some}
+use Rattle.deflist.specs.declared.Written.{Written}
 use mathlib.Core.Path.{◌≡◌, refl, ap, ◌∙◌}
 use mathlib.Core.List.{List, [], ◌∷◌, ◌++◌}
 use Prim.Native.Nat.{ℕ, suc, ◌+◌}
@@ -19,11 +21,7 @@ use Rattle.deflist.specs.Unpack.{refused, from_star, finish}
 use Rattle.deflist.specs.declared.State.{State}
 use Rattle.deflist.specs.declared.State.TheVariants.{Normal as BeforeSlash, SeenSlash, SeenStar, SeenStarStar}
 use Rattle.deflist.specs.declared.Kind.TheVariants.{Normal}
-use Rattle.deflist.specs.declared.WrittenPlace.{WrittenPlace}
-use Rattle.deflist.specs.declared.WrittenPlace.TheVariants.{AtWritten, NoWritten}
 use Rattle.deflist.specs.declared.Flat.{Flat}
-use Rattle.deflist.specs.declared.FlatPlace.{FlatPlace}
-use Rattle.deflist.specs.declared.FlatPlace.TheVariants.{AtFlat, NoFlat}
 use Rattle.deflist.specs.declared.Counts.{Counts}
 use Rattle.demand3.specs.Cut.{Ordinary, Star, no_star, bare, starred, Last, no_kwargs, with_kwargs, after_star}
 use Rattle.demand3.specs.Cut.{ordinary, kwargs_part, args_part}
@@ -75,18 +73,18 @@ counts_ordinary s c (q ∷ qs) l =
     (ap flat_at (omega arith)))
 
 -- the places of `*args` and `**kwargs` in the flat list
-abbrev pub args_place : Star → ℕ → FlatPlace
-args_place no_star m = NoFlat
-args_place (bare r qs) m = NoFlat
-args_place (starred r n qs) m = AtFlat (flat_at m)
+abbrev pub args_place : Star → ℕ → Option Flat
+args_place no_star m = None
+args_place (bare r qs) m = None
+args_place (starred r n qs) m = Some (flat_at m)
 
-abbrev pub kwargs_place : Last → ℕ → FlatPlace
-kwargs_place no_kwargs m = NoFlat
-kwargs_place (with_kwargs r n) m = AtFlat (flat_at m)
+abbrev pub kwargs_place : Last → ℕ → Option Flat
+kwargs_place no_kwargs m = None
+kwargs_place (with_kwargs r n) m = Some (flat_at m)
 
 -- where m are counted, nothing but ordinary parameters
 abbrev pub plain : ℕ → Flat → Counts
-plain m only = counts (flat_at m) only NoFlat NoFlat (flat_at m)
+plain m only = counts (flat_at m) only None None (flat_at m)
 
 -- the same with a star's part and `**kwargs`
 abbrev pub with_tail : ℕ → Flat → Star → Last → Counts
@@ -98,17 +96,17 @@ counts_tail : (m : ℕ) (only : Flat) (s : Star) (k : Last)
     → counts_from SeenSlash (plain m only) (tail s k) ≡ with_tail m only s k
 counts_tail m only no_star no_kwargs = counts_path refl refl refl refl (ap flat_at (omega arith))
 counts_tail m only no_star (with_kwargs r n) = counts_path refl refl refl
-    (ap (λ (x : ℕ). AtFlat (flat_at x)) (omega arith)) (ap flat_at (omega arith))
+    (ap (λ (x : ℕ). Some (flat_at x)) (omega arith)) (ap flat_at (omega arith))
 counts_tail m only (bare x qs) no_kwargs = counts_ordinary SeenStar _ qs []
     ∙ counts_path refl refl refl refl (ap flat_at (omega arith))
 counts_tail m only (bare x qs) (with_kwargs r n) =
     counts_ordinary SeenStar _ qs (kwargs r n ∷ [])
-    ∙ counts_path refl refl refl (ap (λ (x : ℕ). AtFlat (flat_at x)) (omega arith)) (ap flat_at (omega arith))
+    ∙ counts_path refl refl refl (ap (λ (x : ℕ). Some (flat_at x)) (omega arith)) (ap flat_at (omega arith))
 counts_tail m only (starred x y qs) no_kwargs = counts_ordinary SeenStar _ qs []
     ∙ counts_path refl refl refl refl (ap flat_at (omega arith))
 counts_tail m only (starred x y qs) (with_kwargs r n) =
     counts_ordinary SeenStar _ qs (kwargs r n ∷ [])
-    ∙ counts_path refl refl refl (ap (λ (x : ℕ). AtFlat (flat_at x)) (omega arith)) (ap flat_at (omega arith))
+    ∙ counts_path refl refl refl (ap (λ (x : ℕ). Some (flat_at x)) (omega arith)) (ap flat_at (omega arith))
 
 -- LAW: what is counted without `/`, and with it
 pub counts_either : (m : ℕ) (only : Flat) (ms : List Ordinary) (s : Star) (k : Last)
@@ -125,36 +123,36 @@ counts_pos only qs x ms s k =
     ∙ ap (λ (y : ℕ). with_tail (y + length (ordinary ms)) only s k) none_before
 
 -- the position of the `*`
-abbrev pub star_place : Star → ℕ → WrittenPlace
-star_place no_star i = NoWritten
-star_place (bare r qs) i = AtWritten (written_at i)
-star_place (starred r n qs) i = NoWritten
+abbrev pub star_place : Star → ℕ → Option Written
+star_place no_star i = None
+star_place (bare r qs) i = Some (written_at i)
+star_place (starred r n qs) i = None
 
-star_ordinary : (star : WrittenPlace) (i : ℕ) (qs : List Ordinary) (l : List Param)
+star_ordinary : (star : Option Written) (i : ℕ) (qs : List Ordinary) (l : List Param)
     → star_from star i (ordinary qs ++ l) ≡ star_from star (i + length (ordinary qs)) l
 star_ordinary star i [] l = ap (λ (j : ℕ). star_from star j l) (omega arith)
 star_ordinary star i (q ∷ qs) l = star_ordinary star (i + 1) qs l ∙ ap (λ (j : ℕ). star_from star j l) (omega arith)
 
-star_named : (star : WrittenPlace) (i : ℕ) (qs : List Ordinary) (k : Last)
+star_named : (star : Option Written) (i : ℕ) (qs : List Ordinary) (k : Last)
     → star_from star i (ordinary qs ++ kwargs_part k) ≡ star
 star_named star i [] no_kwargs = refl
 star_named star i [] (with_kwargs r n) = refl
 star_named star i (q ∷ qs) k = star_named star (i + 1) qs k
 
-star_tail : (i : ℕ) (s : Star) (k : Last) → star_from NoWritten i (tail s k) ≡ star_place s i
-star_tail i no_star k = star_named NoWritten i [] k
-star_tail i (bare r qs) k = star_named (AtWritten (written_at i)) (i + 1) qs k
-star_tail i (starred r n qs) k = star_named NoWritten (i + 1) qs k
+star_tail : (i : ℕ) (s : Star) (k : Last) → star_from None i (tail s k) ≡ star_place s i
+star_tail i no_star k = star_named None i [] k
+star_tail i (bare r qs) k = star_named (Some (written_at i)) (i + 1) qs k
+star_tail i (starred r n qs) k = star_named None (i + 1) qs k
 
 pub star_either : (i : ℕ) (ms : List Ordinary) (s : Star) (k : Last)
-    → star_from NoWritten i (ordinary ms ++ tail s k) ≡ star_place s (i + length (ordinary ms))
-star_either i ms s k = star_ordinary NoWritten i ms (tail s k) ∙ star_tail (i + length (ordinary ms)) s k
+    → star_from None i (ordinary ms ++ tail s k) ≡ star_place s (i + length (ordinary ms))
+star_either i ms s k = star_ordinary None i ms (tail s k) ∙ star_tail (i + length (ordinary ms)) s k
 
 pub star_pos : (qs : List Ordinary) (x : Node) (ms : List Ordinary) (s : Star) (k : Last)
-    → star_from NoWritten 0 (ordinary qs ++ slash x ∷ (ordinary ms ++ tail s k))
+    → star_from None 0 (ordinary qs ++ slash x ∷ (ordinary ms ++ tail s k))
     ≡ star_place s (length (ordinary qs) + 1 + length (ordinary ms))
 star_pos qs x ms s k =
-    star_ordinary NoWritten 0 qs _ ∙ star_either (0 + length (ordinary qs) + 1) ms s k
+    star_ordinary None 0 qs _ ∙ star_either (0 + length (ordinary qs) + 1) ms s k
     ∙ ap (star_place s) (omega arith)
 
 -- what a bare `*` with nothing after it, or only `**kwargs`, gives

@@ -5,6 +5,7 @@
 -- list: `cut_of (join c) ≡ c`. No induction here; cite `cut_accepted`, `accepted_cut`, `cut_modes`,
 -- `join_injective`.
 -- Assumes nothing.
+use Rattle.std.specs.Prelude.{None, Option, Some}
 use mathlib.Core.Path.{◌≡◌, refl, sym, ap, ap₂, ◌∙◌, subst}
 use mathlib.Core.Bool.{Bool, true, false}
 use mathlib.Core.Logic.{◌⊎◌, inl, inr}
@@ -21,8 +22,6 @@ use Rattle.deflist.specs.Unpack.{start, finish, Outcome, accepted, run, unpack, 
 use Rattle.deflist.specs.declared.State.{State}
 use Rattle.deflist.specs.declared.State.TheVariants.{Normal as BeforeSlash, SeenSlash}
 use Rattle.deflist.specs.declared.Written.{Written}
-use Rattle.deflist.specs.declared.WrittenPlace.{WrittenPlace}
-use Rattle.deflist.specs.declared.WrittenPlace.TheVariants.{AtWritten, NoWritten}
 use Rattle.deflist.specs.declared.Flat.{Flat}
 use Rattle.deflist.specs.declared.Counts.{Counts}
 use Rattle.deflist.proofs.Steps.{clear_start}
@@ -49,11 +48,11 @@ heads_none [] h = tt
 heads_none (p ∷ ps) h = go (is_slash (kind_in p)) refl
   where
     go : (b : Bool) → is_slash (kind_in p) ≡ b → b ≡ false
-    go true e = let z : AtWritten (written_at 0) ≡ NoWritten = rw e at (h 0) in let y : ◌≡◌ {A = ℕ} 0 1 = cc in
+    go true e = let z : Some (written_at 0) ≡ None = rw e at (h 0) in let y : ◌≡◌ {A = ℕ} 0 1 = cc in
         absurd (omega arith)
     go false e = refl
 
-empty_slash : first_slash [] ≡ NoWritten
+empty_slash : first_slash [] ≡ None
 unfolding slash_from
 empty_slash = refl
 
@@ -75,10 +74,10 @@ accepted_heads (p ∷ ps) h = go (is_slash (kind_in p)) refl
 -- the walk from its start
 module _ (l : List Param) (only : Flat) (s : State) (first : first_state only ≡ s) where
   start_finished : Rules s false l → Fresh [] l
-      → run [] (start only) l ≡ finish l (star_from NoWritten 0 l) (counts_from s (plain 0 only) l)
+      → run [] (start only) l ≡ finish l (star_from None 0 l) (counts_from s (plain 0 only) l)
   unfolding start
   start_finished r f = run_finished [] (start only) l (clear_start only) (rw first r) f
-      ∙ ap (λ (x : State). finish l (star_from NoWritten 0 l) (counts_from x (plain 0 only) l)) first
+      ∙ ap (λ (x : State). finish l (star_from None 0 l) (counts_from x (plain 0 only) l)) first
 
   start_accepted : {c : Counts} → run [] (start only) l ≡ accepted c → Rules s false l × Fresh [] l
   unfolding start
@@ -104,7 +103,7 @@ unpack_none ms s k f d =
     let none = none_either ms s k in
     let zero-before : 0 + length (ordinary ms) ≡ length (ordinary ms) = omega arith in
     unpack_walk l (heads_none l none)
-    ∙ ap (λ (x : WrittenPlace). run [] (start (positional_only x)) l) (none 0)
+    ∙ ap (λ (x : Option Written). run [] (start (positional_only x)) l) (none 0)
     ∙ start_finished l (flat_at 0) SeenSlash refl (rules_either false ms s k d) f
     ∙ ap₂ (finish l) (star_either 0 ms s k ∙ ap (star_place s) zero-before) (counts_either 0 (flat_at 0) ms s k)
     ∙ finish_tail (ordinary ms) s k _
@@ -128,7 +127,7 @@ unpack_some q qs x ms s k f d =
     let long : length front ≡ n + 1 + length (ordinary ms) = length-append (firstOnes ++ slash x ∷ []) (ordinary ms)
     ∙ ap (λ (y : ℕ). y + length (ordinary ms)) (length-append firstOnes (slash x ∷ [])) in
     unpack_walk l refl
-    ∙ ap (λ (y : WrittenPlace). run [] (start (positional_only y)) l)
+    ∙ ap (λ (y : Option Written). run [] (start (positional_only y)) l)
     (slash_at 0 (q ∷ qs) x (ordinary ms ++ tail s k))
     ∙ ap (λ (y : ℕ). run [] (start (flat_at y)) l) zero-before
     ∙ start_finished l (flat_at n) BeforeSlash (first_some n (omega arith)) (rules_pos false (q ∷ qs) x ms s k d) f
@@ -152,10 +151,10 @@ unpack_cut c = go c.before c.middle c.star c.last
         ∙ unpack_some q qs x ms s k (subst (Fresh []) (slash_form (q ∷ qs) x _) f) d
 
 -- a `/` that is not first comes later
-slash_later : (l : List Param) {w : Written} → Heads l → first_slash l ≡ AtWritten w → 0 < w.0
+slash_later : (l : List Param) {w : Written} → Heads l → first_slash l ≡ Some w → 0 < w.0
 unfolding slash_from
 slash_later [] h e = never (cc)
-slash_later (p ∷ ps) h e = let rest : slash_from (0 + 1) ps ≡ AtWritten _ = rw h at e in
+slash_later (p ∷ ps) h e = let rest : slash_from (0 + 1) ps ≡ Some _ = rw h at e in
     omega (arith, slash_from_lem (0 + 1) ps rest)
 
 -- an accepted list has a cut, but for what must follow the `*`
@@ -198,20 +197,20 @@ loose_cut l {c} h = go (first_slash l) refl
     heads : Heads l
     heads = accepted_heads l h
 
-    walked : (x : WrittenPlace) → first_slash l ≡ x → run [] (start (positional_only x)) l ≡ accepted c
-    walked x e = ap (λ (y : WrittenPlace). run [] (start (positional_only y)) l) (sym e) ∙ sym (unpack_walk l heads)
+    walked : (x : Option Written) → first_slash l ≡ x → run [] (start (positional_only x)) l ≡ accepted c
+    walked x e = ap (λ (y : Option Written). run [] (start (positional_only y)) l) (sym e) ∙ sym (unpack_walk l heads)
         ∙ h
 
-    slashed : {w : Written} → first_slash l ≡ AtWritten w → Fresh [] l → Slashed false l ⊎ NoSlash l → Loose l
+    slashed : {w : Written} → first_slash l ≡ Some w → Fresh [] l → Slashed false l ⊎ NoSlash l → Loose l
     slashed e f (inl m) = slash_loose l heads f m
-    slashed e f (inr none) = let z : AtWritten _ ≡ NoWritten = sym e ∙ none 0 in never (cc)
+    slashed e f (inr none) = let z : Some _ ≡ None = sym e ∙ none 0 in never (cc)
 
-    go : (x : WrittenPlace) → first_slash l ≡ x → Loose l
-    go NoWritten e = let r = start_accepted l (flat_at 0) SeenSlash refl (walked NoWritten e) in
+    go : (x : Option Written) → first_slash l ≡ x → Loose l
+    go None e = let r = start_accepted l (flat_at 0) SeenSlash refl (walked None e) in
         plain_loose l r.1 (either_rules false l r.0)
-    go (AtWritten w) e =
+    go (Some w) e =
         let r = start_accepted l (flat_at w.0) BeforeSlash (first_some w.0 (slash_later l heads e))
-        (walked (AtWritten w) e) in
+        (walked (Some w) e) in
         slashed e r.1 (pos_rules false l r.0)
 
 -- what follows the `*` decides
@@ -259,16 +258,16 @@ pub cut_modes : (c : Cut) → SlashGood c.before → modes (join c) ≡ part_mod
 unfolding modes
 cut_modes c = go c.before c.middle c.star c.last
   where
-    from : (l : List Param) (x : WrittenPlace) (s : State) → first_slash l ≡ x → first_state (positional_only x) ≡ s
+    from : (l : List Param) (x : Option Written) (s : State) → first_slash l ≡ x → first_state (positional_only x) ≡ s
         → modes_from (first_state (positional_only (first_slash l))) l ≡ modes_from s l
     from l x s e f = ap (λ (y : State). modes_from y l)
-        (ap (λ (z : WrittenPlace). first_state (positional_only z)) e ∙ f)
+        (ap (λ (z : Option Written). first_state (positional_only z)) e ∙ f)
 
     go : (b : Before) (ms : List Ordinary) (s : Star) (k : Last) → SlashGood b
         → modes_from (first_state (positional_only (first_slash (slash_part b ++ (ordinary ms ++ tail s k)))))
         (slash_part b ++ (ordinary ms ++ tail s k))
         ≡ part_modes (parts_of (record { before = b; middle = ms; star = s; last = k }))
-    go no_slash ms s k g = from (ordinary ms ++ tail s k) NoWritten SeenSlash (none_either ms s k 0) refl
+    go no_slash ms s k g = from (ordinary ms ++ tail s k) None SeenSlash (none_either ms s k 0) refl
         ∙ modes_either ms s k
     go (up_to_slash [] x) ms s k g = absurd g
     go (up_to_slash (q ∷ qs) x) ms s k g =

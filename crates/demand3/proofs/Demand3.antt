@@ -13,6 +13,8 @@
 -- specs/Given.antt says what is given, specs/Cut.antt what a cut is and when it is good; neither mentions unpack. The
 -- job `parameters::params` promises to return `params_of` and to leave `modes_after` in the buffer, so each theorem is
 -- about its answer and the buffer at exit. The proofs are in OverTheJob and Cuts. Assumes nothing.
+use Rattle.std.specs.Prelude.{Ok, Result}
+use Rattle.table.specs.declared.Refusal.{Refusal}
 use mathlib.Core.Path.{◌≡◌, sym, ap, ◌∙◌}
 use mathlib.Core.Logic.{◌⊎◌, ◌↔◌}
 use mathlib.Core.List.{List, []}
@@ -28,8 +30,6 @@ use Rattle.deflist.specs.Written.{Param}
 use Rattle.deflist.specs.Limited.{most_parameters}
 use Rattle.parameters.specs.declared.Counted.{Counted}
 use Rattle.parameters.specs.Params.{unpacked, list_of, params_of, modes_after}
-use Rattle.parameters.specs.declared.Unpacked.{Unpacked}
-use Rattle.parameters.specs.declared.Unpacked.TheVariants.{Accepted}
 use Rattle.demand3.specs.Cut.{Cut, join, parts_of, flat_list, cut_ranges, cut_flat, holders, cut_values}
 use Rattle.demand3.specs.Cut.{ByRange, Follow, CutBy}
 use Rattle.demand3.specs.Given.{all_parameters, Given, CutOf, RangesAre}
@@ -101,8 +101,8 @@ module _ (t names : List ℕ) (node : ℕ) (ms : List ℕ) (given : Given t name
     pub ranges_are_the_cuts : params_of t names node (length ms) ≡ accepted (cut_values c)
     ranges_are_the_cuts = job.cut_answer t names node ms given few c cut
 
-    pub answer_has_the_ranges : (r : Unpacked) → unpacked r ≡ params_of t names node (length ms)
-        → (a : Counted) × (r ≡ Accepted a) × RangesAre a (cut_ranges c)
+    pub answer_has_the_ranges : (r : Result Counted Refusal) → unpacked r ≡ params_of t names node (length ms)
+        → (a : Counted) × (r ≡ Ok a) × RangesAre a (cut_ranges c)
     answer_has_the_ranges = job.answer_is t names node ms given few c cut
 
     -- "and each flat parameter's mode is written and is its range's": in the buffer afterwards

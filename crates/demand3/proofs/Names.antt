@@ -4,6 +4,7 @@
 -- names after those seen. The default rule holds along the ordinary parameters exactly if none without default comes
 -- after one with (`defaults_iff`; induction on the parameters, with a flag for a default so far). Cite these two.
 -- Assumes nothing.
+use Rattle.std.specs.Prelude.{None, Option, Some, ℕ}
 use mathlib.Core.Path.{◌≡◌, refl, sym, ap, ◌∙◌}
 use mathlib.Core.Bool.{Bool, true, false, ◌||◌}
 use mathlib.Core.Logic.{◌↔◌, ⊎_elim}
@@ -17,8 +18,6 @@ use Rattle.forest.specs.Names.{Distinct}
 use Rattle.fields.proofs.Basics.{clash, never}
 use Rattle.fields.specs.Choice.{if'}
 use Rattle.forest.specs.Names.{same}
-use Rattle.forest.specs.declared.Found.{Found}
-use Rattle.forest.specs.declared.Found.TheVariants.{At, Nothing}
 use Rattle.forest.proofs.Named.{same_bytes_refl, same_bytes_equal}
 use Rattle.deflist.specs.Written.{Name, Param, normal, no_args, slash, args, kwargs}
 use Rattle.deflist.specs.Unpack.{default_rule, has_name, first_same, repeats}
@@ -28,7 +27,7 @@ use Rattle.demand3.specs.Cut.{Ordinary, names_of, default_at, Defaulted}
 use Rattle.demand3.proofs.Walks.{Fresh}
 use Rattle.demand3.proofs.Shapes.{Defaults}
 
-found : {P : Type 0} {i : ℕ} → At i ≡ Nothing → P
+found : {P : Type 0} {i : ℕ} → Some i ≡ None → P
 found e = never (cc)
 
 -- no name of a list is x
@@ -46,23 +45,23 @@ absent_rest : (x n : Name) (ns : List Name) → Absent x (n ∷ ns) → Absent x
 absent_rest x n ns a i g e = a (suc i) (omega arith) e
 
 -- the search among earlier parameters finds none exactly when the name is none of theirs
-step_none : (n x : Name) (at : ℕ) (rest : Found) → if' (same n x) (λ _. At at) (λ _. rest) ≡ Nothing
-    → (n ≡ x → ⊥) × (rest ≡ Nothing)
+step_none : (n x : Name) (at : ℕ) (rest : Option ℕ) → if' (same n x) (λ _. Some at) (λ _. rest) ≡ None
+    → (n ≡ x → ⊥) × (rest ≡ None)
 step_none n x at rest e = go (same n x) refl e
   where
-    go : (b : Bool) → same n x ≡ b → if' b (λ _. At at) (λ _. rest) ≡ Nothing → (n ≡ x → ⊥) × (rest ≡ Nothing)
+    go : (b : Bool) → same n x ≡ b → if' b (λ _. Some at) (λ _. rest) ≡ None → (n ≡ x → ⊥) × (rest ≡ None)
     go true h e = found e
     go false h e = (λ q. clash refl (sym (same_bytes_refl x) ∙ rw q at h), e)
 
-none_step : (n x : Name) (at : ℕ) (rest : Found) → (n ≡ x → ⊥) → rest ≡ Nothing
-    → if' (same n x) (λ _. At at) (λ _. rest) ≡ Nothing
+none_step : (n x : Name) (at : ℕ) (rest : Option ℕ) → (n ≡ x → ⊥) → rest ≡ None
+    → if' (same n x) (λ _. Some at) (λ _. rest) ≡ None
 none_step n x at rest h e = go (same n x) refl
   where
-    go : (b : Bool) → same n x ≡ b → if' b (λ _. At at) (λ _. rest) ≡ Nothing
+    go : (b : Bool) → same n x ≡ b → if' b (λ _. Some at) (λ _. rest) ≡ None
     go true s = absurd (h (same_bytes_equal n x s))
     go false s = e
 
-none_absent : (x : Name) (l : List Param) → first_same x l ≡ Nothing → Absent x (names_of l)
+none_absent : (x : Name) (l : List Param) → first_same x l ≡ None → Absent x (names_of l)
 unfolding first_same has_name
 none_absent x [] e = λ i h q. absurd (omega arith)
 none_absent x (normal r n d ∷ ps) e = let w = step_none n x r.at (first_same x ps) e in
@@ -74,7 +73,7 @@ none_absent x (args r n ∷ ps) e = let w = step_none n x r.at (first_same x ps)
 none_absent x (kwargs r n ∷ ps) e = let w = step_none n x r.at (first_same x ps) e in
     absent_more x n (names_of ps) w.0 (none_absent x ps w.1)
 
-absent_none : (x : Name) (l : List Param) → Absent x (names_of l) → first_same x l ≡ Nothing
+absent_none : (x : Name) (l : List Param) → Absent x (names_of l) → first_same x l ≡ None
 unfolding first_same has_name
 absent_none x [] a = refl
 absent_none x (normal r n d ∷ ps) a = none_step n x r.at (first_same x ps) (absent_first x n (names_of ps) a)

@@ -3,6 +3,8 @@
 -- (`has_cut`, `cut_answer`). The buffer at exit is then the cut's modes and behind them what was there, so each index
 -- has the mode of its range (`modes_there`) and the other bytes stay (`others_stay`, `as_long`). The values of the
 -- answer are the cut's ranges, so its own five ranges are these (`answer_is`). Nothing recurs here. Assumes nothing.
+use Rattle.std.specs.Prelude.{Err, Ok, Result}
+use Rattle.table.specs.declared.Refusal.{Refusal}
 use mathlib.Core.Path.{◌≡◌, refl, sym, ap, ◌∙◌}
 use mathlib.Core.Bool.{true}
 use mathlib.Core.Logic.{◌⊎◌, inl, inr}
@@ -27,8 +29,6 @@ use Rattle.parameters.specs.declared.Range.{Range}
 use Rattle.parameters.specs.declared.Counted.{Counted}
 use Rattle.deflist.proofs.Theorems.{modes_short}
 use Rattle.parameters.specs.Params.{unpacked, list_of, params_of, modes_after}
-use Rattle.parameters.specs.declared.Unpacked.{Unpacked}
-use Rattle.parameters.specs.declared.Unpacked.TheVariants.{Accepted, Refused}
 use Rattle.parameters.proofs.Accepted.{passed_accepted, accepted_passed}
 use Rattle.parameters.proofs.Long.{long_refused}
 use Rattle.demand3.specs.Cut.{Cut, parts_of, cut_ranges, cut_flat, cut_values, part_modes, ByRange}
@@ -112,10 +112,10 @@ module _ (t names : List ℕ) (node : ℕ) (ms : List ℕ) (g : Given t names no
           rw buffer (whole ∙ omega (arith, short))
 
       -- the answer's own ranges
-      pub answer_is : (r : Unpacked) → unpacked r ≡ params_of t names node (length ms)
-          → (a : Counted) × (r ≡ Accepted a) × RangesAre a (cut_ranges c)
-      answer_is (Refused w) e = never_accepted w (e ∙ cut_answer)
-      answer_is (Accepted a) e =
+      pub answer_is : (r : Result Counted Refusal) → unpacked r ≡ params_of t names node (length ms)
+          → (a : Counted) × (r ≡ Ok a) × RangesAre a (cut_ranges c)
+      answer_is (Err w) e = never_accepted w (e ∙ cut_answer)
+      answer_is (Ok a) e =
           let same : values_of a ≡ cut_values c = values_same (e ∙ cut_answer) in
           let value : (i : ℕ) → get_or (values_of a) i 0
           ≡ get_or (cut_values c) i 0 = λ i. ap (λ (vs : List ℕ). get_or vs i 0) same in (

@@ -4,6 +4,7 @@
 -- second part on (`either_rules`), and before `/` the first part, or there is no `/` at all (`pos_rules`, with
 -- `slash_here` and `slash_later`). The way back is `rules_either` and `rules_pos`, with where the first `/` is
 -- (`slash_at`, `none_either`). Assumes nothing.
+use Rattle.std.specs.Prelude.{None, Some}
 use mathlib.Core.Path.{◌≡◌, refl, ap}
 use mathlib.Core.Bool.{Bool, true, false, ◌||◌}
 use mathlib.Core.Logic.{◌⊎◌, inl, inr}
@@ -19,7 +20,6 @@ use Rattle.deflist.specs.declared.State.TheVariants.{Normal as BeforeSlash, Seen
 use Rattle.deflist.specs.declared.Check.TheVariants.{Fine}
 use Rattle.fields.specs.Choice.{if'}
 use Rattle.deflist.specs.declared.Written.{Written}
-use Rattle.deflist.specs.declared.WrittenPlace.TheVariants.{AtWritten, NoWritten}
 use Rattle.deflist.proofs.Steps.{broken≢fine}
 use Rattle.demand3.specs.Cut.{Ordinary, Star, no_star, bare, starred, Last, no_kwargs, with_kwargs, ordinary}
 use Rattle.demand3.specs.Cut.{star_part, kwargs_part}
@@ -92,7 +92,7 @@ either_rules o (kwargs x n ∷ ps) r = let e = and_then (last_rules o ps r.1) in
 
 -- a list without `/`, wherever it is counted from
 abbrev pub NoSlash : List Param → Type 0
-NoSlash l = (i : ℕ) → slash_from i l ≡ NoWritten
+NoSlash l = (i : ℕ) → slash_from i l ≡ None
 
 none_empty : NoSlash []
 unfolding slash_from
@@ -180,20 +180,20 @@ rules_pos o (q ∷ qs) x ms s k d = (d.0, rules_pos (o || q.default) qs x ms s k
 
 -- the position of the first `/`
 pub slash_at : (i : ℕ) (qs : List Ordinary) (x : Node) (l : List Param)
-    → slash_from i (ordinary qs ++ slash x ∷ l) ≡ AtWritten (written_at (i + length (ordinary qs)))
+    → slash_from i (ordinary qs ++ slash x ∷ l) ≡ Some (written_at (i + length (ordinary qs)))
 unfolding slash_from
 slash_at i [] x l = let e : i + 0 ≡ i = omega arith in rw e refl
 slash_at i (q ∷ qs) x l = let e : i + suc (length (ordinary qs)) ≡ i + 1 + length (ordinary qs) = omega arith in
     rw e (slash_at (i + 1) qs x l)
 
 -- it is no earlier than the list is counted from
-pub slash_from_lem : (i : ℕ) (l : List Param) {w : Written} → slash_from i l ≡ AtWritten w → i ≤ w.0
+pub slash_from_lem : (i : ℕ) (l : List Param) {w : Written} → slash_from i l ≡ Some w → i ≤ w.0
 unfolding slash_from
 slash_from_lem i [] e = never (cc)
 slash_from_lem i (p ∷ ps) {w} e = go (is_slash (kind_in p)) e (λ h. slash_from_lem (i + 1) ps h)
   where
-    go : (b : Bool) → if' b (λ _. AtWritten (written_at i)) (λ _. slash_from (i + 1) ps) ≡ AtWritten w
-        → (slash_from (i + 1) ps ≡ AtWritten w → i + 1 ≤ w.0) → i ≤ w.0
+    go : (b : Bool) → if' b (λ _. Some (written_at i)) (λ _. slash_from (i + 1) ps) ≡ Some w
+        → (slash_from (i + 1) ps ≡ Some w → i + 1 ≤ w.0) → i ≤ w.0
     go true e f = let same : written_at i ≡ w = cc in rw (← same) (omega arith)
     go false e f = omega (arith, f e)
 

@@ -2,20 +2,19 @@
 -- parameter keeps the rule of its kind (`Rules`), none repeats a name before it (`Fresh`), and the end of the walk
 -- accepts what was counted (`finish`). `run_accepted` leads there and `run_finished` back; both are by induction on the
 -- list, for any state before it, and cite deflist's Steps for one step. Assumes nothing.
+use Rattle.std.specs.Prelude.{None, Option, Some, ℕ}
+use Rattle.deflist.specs.declared.Written.{Written}
 use mathlib.Core.Path.{◌≡◌, refl, sym, ◌∙◌}
 use mathlib.Core.Bool.{Bool}
 use mathlib.Core.List.{List, [], ◌∷◌, ◌++◌, append_assoc, append-nil}
 use Prim.Native.Nat.{ℕ, ◌+◌}
 use lib.ListN.{length, length-append}
-use Rattle.forest.specs.declared.Found.{Found}
-use Rattle.forest.specs.declared.Found.TheVariants.{At, Nothing}
 use Rattle.deflist.specs.Written.{Param, kind_in}
 use Rattle.deflist.specs.Unpack.{written_at, repeats, rule, firstly, check, next_state, next_optional, next_star, count}
 use Rattle.deflist.specs.Unpack.{Outcome, advance, finish, accepted, run}
 use Rattle.deflist.specs.declared.State.{State}
 use Rattle.deflist.specs.declared.Check.{Check}
 use Rattle.deflist.specs.declared.Check.TheVariants.{Fine, Broken, Repeated}
-use Rattle.deflist.specs.declared.WrittenPlace.{WrittenPlace}
 use Rattle.deflist.specs.declared.Counts.{Counts}
 use Rattle.deflist.specs.declared.Unpacking.{Unpacking}
 use Rattle.deflist.proofs.Steps.{repeated≢fine, Cleared, run_stop, run_again, run_on_lem, clear_on}
@@ -29,20 +28,20 @@ Rules s o (p ∷ ps) = (rule s o (kind_in p) ≡ Fine) × Rules (next_state s (k
 -- none repeats a name before it
 abbrev pub Fresh : List Param → List Param → Type 0
 Fresh before [] = Unit {0}
-Fresh before (p ∷ ps) = (repeats before p ≡ Nothing) × Fresh (before ++ p ∷ []) ps
+Fresh before (p ∷ ps) = (repeats before p ≡ None) × Fresh (before ++ p ∷ []) ps
 
 -- what is counted, and the position of the `*`, at the end
 abbrev pub counts_from : State → Counts → List Param → Counts
 counts_from s c [] = c
 counts_from s c (p ∷ ps) = counts_from (next_state s (kind_in p)) (count s c (kind_in p)) ps
 
-abbrev pub star_from : WrittenPlace → ℕ → List Param → WrittenPlace
+abbrev pub star_from : Option Written → ℕ → List Param → Option Written
 star_from star i [] = star
 star_from star i (p ∷ ps) = star_from (next_star star (written_at i) (kind_in p)) (i + 1) ps
 
-check_parts : (f : Found) (k : Check) → firstly f k ≡ Fine → (f ≡ Nothing) × (k ≡ Fine)
-check_parts (At i) k e = repeated≢fine e
-check_parts Nothing k e = (refl, e)
+check_parts : (f : Option ℕ) (k : Check) → firstly f k ≡ Fine → (f ≡ None) × (k ≡ Fine)
+check_parts (Some i) k e = repeated≢fine e
+check_parts None k e = (refl, e)
 
 run_fine : (before : List Param) (u : Unpacking) (p : Param) (ps : List Param) {c : Counts}
     → run before u (p ∷ ps) ≡ accepted c → check before u.state u.seen_optional p ≡ Fine
@@ -54,7 +53,7 @@ run_fine before u p ps {c} h = go (check before u.state u.seen_optional p) refl
     go (Repeated i) e = repeated≢accepted (sym (run_again before u p ps e) ∙ h)
 
 -- the end of a walk over one more
-end_step : (before : List Param) (p : Param) (ps : List Param) (star : WrittenPlace) (c : Counts)
+end_step : (before : List Param) (p : Param) (ps : List Param) (star : Option Written) (c : Counts)
     → finish ((before ++ p ∷ []) ++ ps) (star_from star (length (before ++ p ∷ [])) ps) c
     ≡ finish (before ++ p ∷ ps) (star_from star (length before + 1) ps) c
 end_step before p ps star c =

@@ -3,6 +3,7 @@
 -- `other_length`). The test of validity goes along the nine limits, so valid bytes are nine (`valid_length`, from
 -- Within). And nothing is lost: the nine numbers of the record are the bytes again (`row_of_record`), field by field,
 -- so two valid byte strings with one dialect are equal (`same_dialect`). Assumes nothing.
+use Rattle.std.specs.Prelude.{None, Some}
 use mathlib.Core.Path.{◌≡◌, refl, sym, ap, ◌∙◌}
 use mathlib.Core.Bool.{Bool, true, false, false≢true}
 use mathlib.Core.List.{List, [], ◌∷◌}
@@ -13,24 +14,23 @@ use lib.ListN.{length, get_or}
 use Rattle.dialect.specs.declared.Dialect.{Dialect}
 use Rattle.dialect.specs.declared.DialectTypes.{DialectTypes}
 use Rattle.dialect.specs.declared.DialectTypes.TheVariants.{Disable, ParseOnly, Enable}
-use Rattle.dialect.specs.declared.Decoded.TheVariants.{Valid, Invalid}
 use Rattle.dialect.specs.Rows.{types_of, record_of, dialect_named, none_given}
 use Rattle.dialect.specs.Bytes.{limits, within, valid_bytes, from_bytes}
 use Rattle.dialect.proofs.Within.{within_length, within_at, elements_drop}
 
 -- no bytes give the dialect that is meant where none is given
-pub empty_given : from_bytes [] ≡ Valid (dialect_named none_given)
+pub empty_given : from_bytes [] ≡ Some (dialect_named none_given)
 unfolding from_bytes
 empty_given = refl
 
 -- nine valid bytes give the record of those bytes
-pub valid_given : (bs : List ℕ) → valid_bytes bs ≡ true → from_bytes bs ≡ Valid (record_of bs)
+pub valid_given : (bs : List ℕ) → valid_bytes bs ≡ true → from_bytes bs ≡ Some (record_of bs)
 unfolding from_bytes valid_bytes within
 valid_given [] e = absurd (false≢true e)
 valid_given (b ∷ bs) e = simp e
 
 -- bytes that are there and not valid give no dialect
-pub invalid_given : (bs : List ℕ) → (length bs ≡ 0 → ⊥) → valid_bytes bs ≡ false → from_bytes bs ≡ Invalid
+pub invalid_given : (bs : List ℕ) → (length bs ≡ 0 → ⊥) → valid_bytes bs ≡ false → from_bytes bs ≡ None
 unfolding from_bytes
 invalid_given [] some e = absurd (some refl)
 invalid_given (b ∷ bs) some e = simp e
@@ -49,7 +49,7 @@ invalid_length bs other = go (valid_bytes bs) refl
     go false e = refl
 
 -- a length other than 0 and 9 gives no dialect
-pub other_length : (bs : List ℕ) → (length bs ≡ 0 → ⊥) → (length bs ≡ 9 → ⊥) → from_bytes bs ≡ Invalid
+pub other_length : (bs : List ℕ) → (length bs ≡ 0 → ⊥) → (length bs ≡ 9 → ⊥) → from_bytes bs ≡ None
 other_length bs some other = invalid_given bs some (invalid_length bs other)
 
 -- the number of a bool: 1 for true, 0 for false

@@ -1,7 +1,6 @@
 -- What dialect bytes mean: nine bytes in the order of the fields of `Dialect`, or none at all.
-use Rattle.std.specs.Prelude.{Bool, true, false, ◌&&◌, List, [], ◌∷◌, ℕ, leb}
-use Rattle.dialect.specs.declared.Decoded.{Decoded}
-use Rattle.dialect.specs.declared.Decoded.TheVariants.{Valid, Invalid}
+use Rattle.std.specs.Prelude.{Bool, true, false, ◌&&◌, List, [], ◌∷◌, ℕ, leb, None, Option, Some}
+use Rattle.dialect.specs.declared.Dialect.{Dialect}
 use Rattle.dialect.specs.Rows.{record_of, dialect_named, none_given}
 use Rattle.fields.specs.Choice.{if'}
 
@@ -21,6 +20,6 @@ unfoldable pub valid_bytes : List ℕ → Bool
 valid_bytes bytes = within limits bytes
 
 -- no bytes give the default dialect (`none_given`), nine valid bytes give their dialect, and all other bytes give none
-unfoldable pub from_bytes : List ℕ → Decoded
-from_bytes [] = Valid (dialect_named none_given)
-from_bytes (b ∷ bs) = if' (valid_bytes (b ∷ bs)) (λ _. Valid (record_of (b ∷ bs))) (λ _. Invalid)
+unfoldable pub from_bytes : List ℕ → Option Dialect
+from_bytes [] = Some (dialect_named none_given)
+from_bytes (b ∷ bs) = if' (valid_bytes (b ∷ bs)) (λ _. Some (record_of (b ∷ bs))) (λ _. None)

@@ -42,32 +42,11 @@ pub enum Name {
     AllOptionsInternal,
 }
 
-// The result of reading dialect bytes: a dialect, or Invalid.
-#[derive(Clone, Copy)]
-pub enum Decoded {
-    Valid(Dialect),
-    Invalid,
-}
-
 // The editions of the type rules. The second allows a path that ends in `type`; the first bans it.
 #[derive(Clone, Copy)]
 pub enum Edition {
     One,
     Two,
-}
-
-// The result of reading an edition's number: the edition, or Unknown for a number other than 1 and 2.
-#[derive(Clone, Copy)]
-pub enum EditionRead {
-    Known(Edition),
-    Unknown,
-}
-
-// What a file states of its edition: a number, which may be no edition, or nothing.
-#[derive(Clone, Copy)]
-pub enum Stated {
-    Number(u32),
-    Nothing,
 }
 
 // A row for each name, in the order of Name: nine numbers in the order of the fields of Dialect.
@@ -89,16 +68,16 @@ pub fn named(name: Name) -> Dialect
 }
 
 // Reads a dialect from nine bytes in the order of the fields of Dialect. No bytes give NONE_GIVEN.
-pub fn from_bytes(bytes: &[u8]) -> Decoded
+pub fn from_bytes(bytes: &[u8]) -> Option<Dialect>
     ensures { result ≡ from_bytes bytes.now }
 {
     if bytes.len() == 0 {
-        return Decoded::Valid(named(NONE_GIVEN));
+        return Some(named(NONE_GIVEN));
     }
     if valid_bytes(bytes) {
-        return Decoded::Valid(record_of(bytes));
+        return Some(record_of(bytes));
     }
-    Decoded::Invalid
+    None
 }
 
 // Whether a dialect with this enable_types permits type annotations at all.
@@ -113,31 +92,31 @@ pub fn permits_types(types: DialectTypes) -> bool
 }
 
 // The edition of a number: 1 and 2 are editions.
-pub fn edition_of(number: u32) -> EditionRead
+pub fn edition_of(number: u32) -> Option<Edition>
     ensures { result ≡ edition_of number }
 {
     if number == 1 {
-        return EditionRead::Known(Edition::One);
+        return Some(Edition::One);
     }
     if number == 2 {
-        return EditionRead::Known(Edition::Two);
+        return Some(Edition::Two);
     }
-    EditionRead::Unknown
+    None
 }
 
 // The edition of a file with these dialect bytes: the first if it states none. An edition that is stated needs dialect
 // bytes before it.
-pub fn edition_held(bytes: &[u8], stated: Stated) -> EditionRead
+pub fn edition_held(bytes: &[u8], stated: Option<u32>) -> Option<Edition>
     ensures { result ≡ edition_held bytes.now (stated_bytes stated) }
 {
     match stated {
-        Stated::Number(number) => {
+        Some(number) => {
             if bytes.len() == 0 {
-                return EditionRead::Unknown;
+                return None;
             }
             edition_of(number)
         }
-        Stated::Nothing => EditionRead::Known(Edition::One),
+        None => Some(Edition::One),
     }
 }
 

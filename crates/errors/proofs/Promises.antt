@@ -7,17 +7,18 @@ use mathlib.Core.List.{List}
 use Prim.Native.Nat.{ℕ, ◌*◌, min}
 use Rattle.fields.proofs.Coincide.{coincide}
 use Rattle.forest.specs.Forest.{node_of}
-use Rattle.errors.specs.declared.Err.{Err}
+use Rattle.errors.specs.declared.Finding.{Finding}
 use Rattle.errors.specs.declared.Listing.{Listing}
 use Rattle.errors.specs.Errors.{err_at, only, unless, width, Stores}
 
 -- what stores the same errors in the same words counts and leaves the same
-one : {l : Listing} {es : List Err} {xs : List ℕ} {m n : ℕ} {ys zs : List ℕ} → Stores l es xs m ys → Stores l es xs n zs
+one : {l : Listing} {es : List Finding} {xs : List ℕ} {m n : ℕ} {ys zs : List ℕ} → Stores l es xs m ys
+    → Stores l es xs n zs
     → (m ≡ n) × (ys ≡ zs)
 one p q = (coincide p.count q.count, coincide p.words q.words)
 
 -- of `push`
-pub push_one : (listing : Listing) (e : Err) (errors : List ℕ) {r s : ℕ} {errors-r errors-s : List ℕ}
+pub push_one : (listing : Listing) (e : Finding) (errors : List ℕ) {r s : ℕ} {errors-r errors-s : List ℕ}
     → Stores listing (only e) errors r errors-r → Stores listing (only e) errors s errors-s
     → (r ≡ s) × (errors-r ≡ errors-s)
 push_one listing e errors = one

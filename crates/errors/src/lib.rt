@@ -18,7 +18,7 @@ pub const WIDTH_WITH_NODE: usize = WIDTH + 1;
 
 // An error: its number, the index of its record, and its place in the script.
 #[derive(Clone, Copy)]
-pub struct Err {
+pub struct Finding {
     pub number: u32,
     pub node: u32,
     pub span: Span,
@@ -34,7 +34,7 @@ pub enum Listing {
 }
 
 // Stores one error if there is room for it, and counts it in any case, if the form keeps it.
-pub fn push(listing: Listing, e: Err, errors: &mut [u32]) -> usize
+pub fn push(listing: Listing, e: Finding, errors: &mut [u32]) -> usize
     ensures { Stores listing (only e) errors.old result errors.new }
 {
     match listing {
@@ -46,7 +46,7 @@ pub fn push(listing: Listing, e: Err, errors: &mut [u32]) -> usize
 }
 
 // Stores an error without its node.
-fn push_short(e: Err, errors: &mut [u32]) -> usize
+fn push_short(e: Finding, errors: &mut [u32]) -> usize
     ensures { Stores Module (only e) errors.old result errors.new }
 {
     let span = e.span;
@@ -60,7 +60,7 @@ fn push_short(e: Err, errors: &mut [u32]) -> usize
 }
 
 // Stores an error with its node.
-fn push_long(e: Err, errors: &mut [u32]) -> usize
+fn push_long(e: Finding, errors: &mut [u32]) -> usize
     ensures { Stores Audit (only e) errors.old result errors.new }
 {
     let place = e.span;
@@ -75,7 +75,7 @@ fn push_long(e: Err, errors: &mut [u32]) -> usize
 }
 
 // Stores the number of an error.
-fn push_number(e: Err, errors: &mut [u32]) -> usize
+fn push_number(e: Finding, errors: &mut [u32]) -> usize
     ensures { Stores Numbers (only e) errors.old result errors.new }
 {
     if 1 <= errors.len() {
@@ -85,7 +85,7 @@ fn push_number(e: Err, errors: &mut [u32]) -> usize
 }
 
 // Stores an error with its node, unless it is an error of a parameter list.
-fn push_own(e: Err, errors: &mut [u32]) -> usize
+fn push_own(e: Finding, errors: &mut [u32]) -> usize
     ensures { Stores Own (only e) errors.old result errors.new }
 {
     if !is_list_error(e.number) {
@@ -102,10 +102,10 @@ fn is_list_error(number: u32) -> bool
 }
 
 // The error with a number at the first record of t, whose index is at.
-fn error_at(number: u32, t: &[u8], at: u32) -> Err
+fn error_at(number: u32, t: &[u8], at: u32) -> Finding
     ensures { result ≡ err_at number (node_of at t.now) }
 {
-    Err {
+    Finding {
         number: number,
         node: at,
         span: table::span_of(t),

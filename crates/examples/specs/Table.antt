@@ -1,6 +1,6 @@
 -- A table of worked examples of the rules (docs/RULES.md), on the definitions that the contracts cite; and a second
 -- table, of the types that the second edition of the type rules reads differently (W-212). These are definitions.
-use Rattle.std.specs.Prelude.{true, false, List, [], ◌∷◌, ℕ}
+use Rattle.std.specs.Prelude.{true, false, List, [], ◌∷◌, ℕ, None, Option, Some}
 use Rattle.dialect.specs.declared.Edition.{Edition}
 use Rattle.dialect.specs.declared.Edition.TheVariants.{One, Two}
 use Rattle.forest.specs.Forest.{Node, Tree, node, none, ◌then◌}
@@ -15,8 +15,6 @@ use Rattle.deflist.specs.Limited.{limited}
 use Rattle.deflist.specs.Told.{internal_error}
 use Rattle.parameters.specs.Indices.{range, named_only, counted_of}
 use Rattle.parameters.specs.declared.Counted.{Counted}
-use Rattle.table.specs.declared.Place.{Place}
-use Rattle.table.specs.declared.Place.TheVariants.{At, Nothing}
 use Rattle.parameters.specs.declared.Range.{Range}
 use Rattle.arguments.specs.Written as written
 use Rattle.arguments.specs.Call as call
@@ -120,7 +118,7 @@ pub data Asked : Type 0 where
 -- the right side of a row: the numbers of a list with its named-only range, the number of a refusal, or plain
 -- acceptance
 pub data Shown : Type 0 where
-  list : ℕ → ℕ → Place → Place → Range → Shown
+  list : ℕ → ℕ → Option ℕ → Option ℕ → Range → Shown
   number : ℕ → Shown
   fine : Shown
 
@@ -154,10 +152,10 @@ row q s = record { asked = q; shown = s }
 -- THE TABLE
 abbrev pub table : List Row
 table =
-    row (parameters []) (list 0 0 Nothing Nothing (range 0 0)) ∷  -- ()
+    row (parameters []) (list 0 0 None None (range 0 0)) ∷  -- ()
     row (parameters (parameter a ∷ slash_mark ∷ parameter b ∷ star ∷ parameter c  -- (a, /, b, *, c, **k)
-    ∷ star_star k ∷ [])) (list 2 1 Nothing (At 3) (range 2 3)) ∷
-    row (parameters (star_args ∷ parameter a ∷ [])) (list 0 0 (At 0) Nothing (range 1 2)) ∷  -- (*args, a)
+    ∷ star_star k ∷ [])) (list 2 1 None (Some 3) (range 2 3)) ∷
+    row (parameters (star_args ∷ parameter a ∷ [])) (list 0 0 (Some 0) None (range 1 2)) ∷  -- (*args, a)
     row (parameters (with_default a ∷ slash_mark ∷ parameter b ∷ [])) (number 13) ∷  -- (a=1, /, b)
     row (parameters (slash_mark ∷ parameter a ∷ [])) (number 10) ∷  -- (/, a)
     row (parameters (star ∷ slash_mark ∷ [])) (number 15) ∷  -- (*, /)

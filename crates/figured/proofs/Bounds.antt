@@ -3,6 +3,7 @@
 -- two errors a node. A step that continues has counted fewer than 4,294,967,295 files. So sums of small counters fit
 -- (`sum_fits`), are plain sums (`step_sum`), and are small again (`step_small`). The counters of a report from zeros
 -- are then small, by induction over its steps (`report_small`). Assumes nothing.
+use Rattle.std.specs.Prelude.{Ok}
 use mathlib.Core.Path.{◌≡◌, refl, sym, ap, ap₂, ◌∙◌}
 use mathlib.Core.Bool.{Bool, true, false, ◌&&◌}
 use mathlib.Core.List.{List, [], ◌∷◌, ◌++◌}
@@ -27,7 +28,7 @@ use Rattle.deflist.specs.declared.State.{State}
 use Rattle.parameters.specs.Params.{AllBelow, list_of, params_of}
 use Rattle.parameters.proofs.Accepted.{accepted_passed}
 use Rattle.arguments.specs.Job.{call_of}
-use Rattle.errors.specs.declared.Err.{Err}
+use Rattle.errors.specs.declared.Finding.{Finding}
 use Rattle.validate.specs.Job.{errors_of}
 use Rattle.validate.proofs.Theorems.{errors_few}
 use Rattle.blocks.specs.Block.{demand}
@@ -40,7 +41,6 @@ use Rattle.figures.specs.Walking.{plus, modes_at}
 use Rattle.table.specs.Numbers.{too_many_files}
 use Rattle.figures.specs.Reporting.{most_files, window_check, step_check, told, step_of, figures_after, zeros}
 use Rattle.figures.specs.Reporting.{report_from, report_of}
-use Rattle.figures.specs.declared.Stepped.TheVariants.{Taken}
 use Rattle.figures.proofs.Additions.{held_fits}
 use Rattle.figures.proofs.Running.{report_none, report_on, report_stop}
 use Rattle.figured.specs.Said.{most_added, Small}
@@ -111,7 +111,7 @@ module _ (t names : List ℕ) (i : ℕ) where
   refused_few = one_few (node_fits t i Call && is_refused (call_of t names i))
 
 -- the errors of one number are at most all errors
-numbers_length : (es : List Err) → length (numbers_of es) ≡ length es
+numbers_length : (es : List Finding) → length (numbers_of es) ≡ length es
 unfolding numbers_of
 numbers_length [] = refl
 numbers_length (e ∷ es) = ap suc (numbers_length es)
@@ -205,11 +205,11 @@ pub zeros_small : Small zeros
 zeros_small = record { all = refl; files = omega arith; others = λ i. omega (arith, zeros_at i) }
 
 -- a step that continues from small counters
-module _ (w fs : List ℕ) (some : length w ≡ 0 → ⊥) {n : ℕ} (takes : step_of w fs ≡ Taken n) where
+module _ (w fs : List ℕ) (some : length w ≡ 0 → ⊥) {n : ℕ} (takes : step_of w fs ≡ Ok n) where
   step_passed : (vs : List ℕ) × (step_check w fs ≡ accepted vs)
   step_passed = go (step_check w fs) refl (sym (step_is w fs some) ∙ takes)
     where
-      go : (a : Answer) → step_check w fs ≡ a → told a (header_at w).taken ≡ Taken n
+      go : (a : Answer) → step_check w fs ≡ a → told a (header_at w).taken ≡ Ok n
           → (vs : List ℕ) × (step_check w fs ≡ accepted vs)
       go (accepted vs) e h = (vs, e)
       go (refused k vs) e h = never (cc)

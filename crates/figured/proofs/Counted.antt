@@ -3,6 +3,7 @@
 -- the length that its header states (tablefile's `file_passes`, `file_holds`, `file_taken`). So its report is whole
 -- and has the content's figures (`file_report`); from zeros no sum reaches the limit (Bounds). So the hypotheses of
 -- the theorems on steps can be met: `example_report` is the report of the file of `x = 1`. Assumes nothing.
+use Rattle.std.specs.Prelude.{Ok}
 use mathlib.Core.Path.{◌≡◌, refl, sym, ap, ap₂, ◌∙◌}
 use mathlib.Core.List.{List, [], ◌∷◌, ◌++◌, append-nil}
 use Prim.Native.Nat.{ℕ, zero, suc, ◌+◌, ◌<◌}
@@ -36,7 +37,6 @@ use Rattle.figures.specs.Adding.{added}
 use Rattle.figures.specs.Walking.{plus}
 use Rattle.figures.specs.Reporting.{most_files, window_check, step_check, step_of, figures_after, whole, zeros}
 use Rattle.figures.specs.Reporting.{report_from, report_of}
-use Rattle.figures.specs.declared.Stepped.TheVariants.{Taken}
 use Rattle.figures.proofs.Running.{report_none, report_on}
 use Rattle.figures.proofs.Windows.{taken_least}
 use Rattle.figured.proofs.Sums.{step_is, taken_adds}
@@ -66,7 +66,7 @@ module _ (c : Content) (s : SoundContent c) (rest : List ℕ) where
 
   module _ (fs : List ℕ) (room : get_or fs 0 0 < most_files) where
     -- THEOREM: a step takes it
-    pub file_step : step_of joined fs ≡ Taken (length (file_of c))
+    pub file_step : step_of joined fs ≡ Ok (length (file_of c))
     unfolding step_check
     file_step =
         step_is joined fs some_byte ∙ rw (lt-ltb (get_or fs 0 0) most_files room, window_passes, asked) refl

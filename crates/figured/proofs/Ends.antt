@@ -1,6 +1,7 @@
 -- The smallest inputs. An input without a byte has no file (`empty_report`). An input with fewer than 512 bytes has a
 -- file whose first block is not complete, so 70 ends its report at its first byte (`short_report`). Both are one step
 -- of the report's definition. Assumes nothing.
+use Rattle.std.specs.Prelude.{Err}
 use mathlib.Core.Path.{◌≡◌, refl}
 use mathlib.Core.List.{List, [], ◌∷◌}
 use Prim.Native.Nat.{ℕ, ◌<◌}
@@ -14,7 +15,6 @@ use Rattle.blocks.proofs.Judging.{judge_short}
 use Rattle.tablefile.specs.Reading.{header_at, used_of, blocks_check, front_check}
 use Rattle.figures.specs.Reporting.{window_check, step_check, step_of, whole, ended_by, zeros}
 use Rattle.figures.specs.Reporting.{report_of}
-use Rattle.figures.specs.declared.Stepped.TheVariants.{Refused}
 use Rattle.figures.proofs.Running.{report_none, report_stop}
 
 -- THEOREM: an input without a byte has no file
@@ -27,7 +27,7 @@ module _ (a : List ℕ) (some : length a ≡ 0 → ⊥) (short : length a < bloc
   unfolding blocks_check
   short_front = rw (← judge_short 0 (used_of (header_at a)) a short) refl
 
-  short_step : step_of a zeros ≡ Refused block_short
+  short_step : step_of a zeros ≡ Err block_short
   unfolding step_of step_check window_check
   short_step = rw (ne_eqb (length a) 0 some, ← short_front) refl
 

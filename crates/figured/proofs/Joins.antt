@@ -2,6 +2,7 @@
 -- counters so far (`report_joined`). Each step over the first input is the same with more bytes after it, because a
 -- file that is accepted is present whole (Parts). The induction is over the steps of the first input's report.
 -- Assumes nothing.
+use Rattle.std.specs.Prelude.{Ok}
 use mathlib.Core.Path.{◌≡◌, refl, sym, ap, ◌∙◌}
 use mathlib.Core.List.{List, [], ◌∷◌, ◌++◌}
 use Prim.Native.Nat.{ℕ, ◌+◌, ◌≤◌}
@@ -13,7 +14,6 @@ use Rattle.tablefile.specs.Reading.{header_at}
 use Rattle.tablefile.specs.declared.Heading.{Heading}
 use Rattle.tablefile.proofs.Fronts.{header_front}
 use Rattle.figures.specs.Reporting.{step_of, figures_after, whole, ended_by, report_from}
-use Rattle.figures.specs.declared.Stepped.TheVariants.{Taken}
 use Rattle.figures.specs.declared.Ending.{Ending}
 use Rattle.figures.specs.declared.Ending.TheVariants.{Whole, Refused as RefusedAt}
 use Rattle.figures.specs.declared.Reported.{Reported}
@@ -36,7 +36,7 @@ joined_none at fs a b none gs e =
     rw (here, ← same, no_byte a none) refl
 
 -- a step that takes the file at the front is the same with more bytes after it
-module _ (a b fs : List ℕ) (some : length a ≡ 0 → ⊥) {n : ℕ} (takes : step_of a fs ≡ Taken n) where
+module _ (a b fs : List ℕ) (some : length a ≡ 0 → ⊥) {n : ℕ} (takes : step_of a fs ≡ Ok n) where
   held_whole : (header_at (a ++ b)).taken ≤ length a
   held_whole =
       let asked : (header_at a).taken ≡ n = taken_asked a fs some takes in
@@ -48,7 +48,7 @@ module _ (a b fs : List ℕ) (some : length a ≡ 0 → ⊥) {n : ℕ} (takes : 
   joined_some : length (a ++ b) ≡ 0 → ⊥
   joined_some e = some (omega (arith, e, length-append a b))
 
-  pub step_more : step_of (a ++ b) fs ≡ Taken n
+  pub step_more : step_of (a ++ b) fs ≡ Ok n
   step_more =
       sym (part_step (length a) (a ++ b) held_whole fs joined_some)
       ∙ ap (λ (l : List ℕ). step_of l fs) (take-append_seam a b) ∙ takes

@@ -2,6 +2,7 @@
 -- the whole (`part_check`, `part_content`): both have the same first bytes, and those decide (figures' Windows).
 -- Hence a step over a part that contains the file at the front is the step over the whole (`part_step`). Assumes
 -- nothing.
+use Rattle.std.specs.Prelude.{Ok}
 use mathlib.Core.Path.{◌≡◌, refl, sym, ap, ◌∙◌}
 use mathlib.Core.List.{List}
 use Prim.Native.Nat.{ℕ, ◌≤◌}
@@ -15,15 +16,14 @@ use Rattle.tablefile.specs.Reading.{header_at, content_at, front_check}
 use Rattle.tablefile.proofs.Fronts.{header_front}
 use Rattle.figures.specs.Reporting.{window_check, step_check, told, step_of}
 use Rattle.figures.specs.Reporting.{figures_after}
-use Rattle.figures.specs.declared.Stepped.TheVariants.{Taken}
 use Rattle.figures.proofs.Windows.{file_in, taken_least, front_window, content_window}
 
 -- LAW: a step that continues takes the number of bytes that the header gives
-pub taken_asked : (w fs : List ℕ) → (length w ≡ 0 → ⊥) → {n : ℕ} → step_of w fs ≡ Taken n → (header_at w).taken ≡ n
+pub taken_asked : (w fs : List ℕ) → (length w ≡ 0 → ⊥) → {n : ℕ} → step_of w fs ≡ Ok n → (header_at w).taken ≡ n
 unfolding step_of
 taken_asked w fs some {n} e = go (step_check w fs) (rw (ne_eqb (length w) 0 some) at e)
   where
-    go : (a : Answer) → told a (header_at w).taken ≡ Taken n → (header_at w).taken ≡ n
+    go : (a : Answer) → told a (header_at w).taken ≡ Ok n → (header_at w).taken ≡ n
     go (accepted vs) h = cc
     go (refused k vs) h = never (cc)
 

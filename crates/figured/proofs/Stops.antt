@@ -2,6 +2,7 @@
 -- (`report_before`), because each earlier step is the same without the bytes that follow. A refusal other than 70
 -- stays, with its place and counters, whatever bytes follow (`report_same`): a check that is not 70 has read only
 -- blocks that are complete (`front_more`). Both are by induction over the steps (Induction). Assumes nothing.
+use Rattle.std.specs.Prelude.{Err, Ok, Result, ℕ}
 use mathlib.Core.Path.{◌≡◌, refl, sym, ap, ◌∙◌}
 use mathlib.Core.List.{List, [], ◌++◌}
 use mathlib.Core.Logic.{◌⊎◌, inl, inr}
@@ -22,8 +23,6 @@ use Rattle.tablefile.specs.Reading.{header_at, used_of, content_at, counts_fit, 
 use Rattle.tablefile.proofs.Fronts.{header_front, first_is, fronted_then, taken_there}
 use Rattle.figures.specs.Reporting.{most_files, window_check, step_check, told, step_of, figures_after, whole}
 use Rattle.figures.specs.Reporting.{ended_by, report_from, zeros, report_of}
-use Rattle.figures.specs.declared.Stepped.{Stepped}
-use Rattle.figures.specs.declared.Stepped.TheVariants.{Taken, Refused}
 use Rattle.figures.specs.declared.Ending.{Ending}
 use Rattle.figures.specs.declared.Ending.TheVariants.{Whole, Refused as RefusedAt}
 use Rattle.figures.specs.declared.Reported.{Reported}
@@ -63,7 +62,7 @@ pub record Before (at p : ℕ) (fs a gs : List ℕ) : Type 0 where
   pub most : p ≤ at + length a
   pub whole_there : report_from at fs (take (p - at) a) ≡ whole gs
 
-module _ (at : ℕ) (fs a : List ℕ) (some : length a ≡ 0 → ⊥) {n p : ℕ} {gs : List ℕ} (takes : step_of a fs ≡ Taken n)
+module _ (at : ℕ) (fs a : List ℕ) (some : length a ≡ 0 → ⊥) {n p : ℕ} {gs : List ℕ} (takes : step_of a fs ≡ Ok n)
     (rest : Before (at + n) p (figures_after a fs) (drop n a) gs) where
   before_on : Before at p fs a gs
   before_on =
@@ -73,7 +72,7 @@ module _ (at : ℕ) (fs a : List ℕ) (some : length a ≡ 0 → ⊥) {n p : ℕ
       let holds : (header_at a).taken ≤ m = omega (arith, asked, rest.least) in
       let long = length-take m a in
       let part_some : length (take m a) ≡ 0 → ⊥ = λ e. absurd (omega (arith, e, long, fits, rest.least)) in
-      let here : step_of (take m a) fs ≡ Taken n = part_step m a holds fs some ∙ takes in
+      let here : step_of (take m a) fs ≡ Ok n = part_step m a holds fs some ∙ takes in
       let left : m - n ≡ p - (at + n) = omega arith in
       record {
         least = omega (arith, rest.least);
@@ -82,7 +81,7 @@ module _ (at : ℕ) (fs a : List ℕ) (some : length a ≡ 0 → ⊥) {n p : ℕ
             ∙ rw (part_after m a holds fs some, drop_take n m a, left) rest.whole_there;
       }
 
-before_stop : (at : ℕ) (fs a : List ℕ) → (length a ≡ 0 → ⊥) → {m n p : ℕ} {gs : List ℕ} → step_of a fs ≡ Refused m
+before_stop : (at : ℕ) (fs a : List ℕ) → (length a ≡ 0 → ⊥) → {m n p : ℕ} {gs : List ℕ} → step_of a fs ≡ Err m
     → report_from at fs a ≡ ended_by n p gs → Before at p fs a gs
 before_stop at fs a some {p = p} h e =
     let end = same_end (sym (report_stop at fs a some h) ∙ e) in
@@ -220,21 +219,21 @@ module _ (a b : List ℕ) where
       ap sound_check (more_content us e)))
 
   -- LAW: a step that is refused with a number other than 70 is refused with it if more bytes follow
-  module _ (fs : List ℕ) (some : length a ≡ 0 → ⊥) {k : ℕ} (stops : step_of a fs ≡ Refused k) (other : k ≡ 70 → ⊥) where
+  module _ (fs : List ℕ) (some : length a ≡ 0 → ⊥) {k : ℕ} (stops : step_of a fs ≡ Err k) (other : k ≡ 70 → ⊥) where
     stay_some : length (a ++ b) ≡ 0 → ⊥
     stay_some e = some (omega (arith, e, length-append a b))
 
-    told_stops : told (step_check a fs) (header_at a).taken ≡ Refused k
+    told_stops : told (step_check a fs) (header_at a).taken ≡ Err k
     unfolding step_of
     told_stops = rw (ne_eqb (length a) 0 some) at stops
 
-    check_long : (x : Answer) (n : ℕ) → told x n ≡ Refused k → NotShort x
+    check_long : (x : Answer) (n : ℕ) → told x n ≡ Err k → NotShort x
     check_long (accepted vs) n e = tt
     check_long (refused m vs) n e = λ h. other (m_is ∙ h)
       where
-        number : Stepped → ℕ
-        number (Taken n) = 0
-        number (Refused m) = m
+        number : Result ℕ ℕ → ℕ
+        number (Ok n) = 0
+        number (Err m) = m
 
         m_is : k ≡ m
         m_is = sym (ap number e)
@@ -245,12 +244,12 @@ module _ (a b : List ℕ) where
         let h = check_long (step_check a fs) (header_at a).taken told_stops in
         then_more (demand (ltb (get_or fs 0 0) most_files) too_many_files) _ _ h (λ _ _ g. window_stays g)
 
-    pub stop_stays : step_of (a ++ b) fs ≡ Refused k
+    pub stop_stays : step_of (a ++ b) fs ≡ Err k
     unfolding step_of
     stop_stays =
         rw (ne_eqb (length (a ++ b)) 0 stay_some, check_stays) (go (step_check a fs) told_stops)
       where
-        go : (x : Answer) → told x (header_at a).taken ≡ Refused k → told x (header_at (a ++ b)).taken ≡ Refused k
+        go : (x : Answer) → told x (header_at a).taken ≡ Err k → told x (header_at (a ++ b)).taken ≡ Err k
         go (accepted vs) e = never (cc)
         go (refused m vs) e = e
 

@@ -3,6 +3,7 @@
 -- for 76. So both add the same figures (`run_both`), and both end at the same distance from their beginning. With the
 -- report of the second input from zeros this is the sum (`report_sums`): adding figures that were limited to 64 bits
 -- from zeros is adding the figures (`added_held`). The inductions are over the steps (Induction). Assumes nothing.
+use Rattle.std.specs.Prelude.{Err, Ok}
 use mathlib.Core.Path.{◌≡◌, refl, sym, ap, ap₂, ◌∙◌}
 use mathlib.Core.Bool.{Bool, true, false}
 use mathlib.Core.List.{List, [], ◌∷◌, ◌++◌}
@@ -20,7 +21,6 @@ use Rattle.figures.specs.Walking.{plus}
 use Rattle.table.specs.Numbers.{too_many_files}
 use Rattle.figures.specs.Reporting.{most_files, step_check, told, counted, step_of}
 use Rattle.figures.specs.Reporting.{figures_after, whole, ended_by, report_from, zeros, report_of}
-use Rattle.figures.specs.declared.Stepped.TheVariants.{Taken, Refused}
 use Rattle.figures.specs.declared.Ending.{Ending}
 use Rattle.figures.specs.declared.Ending.TheVariants.{Whole, Refused as RefusedAt}
 use Rattle.figures.specs.declared.Reported.{Reported}
@@ -37,17 +37,17 @@ module _ (w fs : List ℕ) (some : length w ≡ 0 → ⊥) where
   step_is = rw (ne_eqb (length w) 0 some) refl
 
   -- a step that continues adds the figures of the file at the front
-  pub taken_adds : {n : ℕ} → step_of w fs ≡ Taken n → figures_after w fs ≡ added fs (figures_of (content_at w))
+  pub taken_adds : {n : ℕ} → step_of w fs ≡ Ok n → figures_after w fs ≡ added fs (figures_of (content_at w))
   unfolding figures_after
   taken_adds {n} e = rw (ne_eqb (length w) 0 some) (go (step_check w fs) (sym step_is ∙ e))
     where
-      go : (a : Answer) → told a (header_at w).taken ≡ Taken n
+      go : (a : Answer) → told a (header_at w).taken ≡ Ok n
           → counted a fs (figures_of (content_at w)) ≡ added fs (figures_of (content_at w))
       go (accepted vs) h = refl
       go (refused k vs) h = never (cc)
 
   -- a step that is not 76 is not 76 from counters with fewer files
-  step_alike : (gs : List ℕ) → get_or gs 0 0 ≤ get_or fs 0 0 → (step_of w fs ≡ Refused too_many_files → ⊥)
+  step_alike : (gs : List ℕ) → get_or gs 0 0 ≤ get_or fs 0 0 → (step_of w fs ≡ Err too_many_files → ⊥)
       → step_of w gs ≡ step_of w fs
   unfolding step_of step_check
   step_alike gs fewer not = go (ltb (get_or fs 0 0) most_files) refl
@@ -111,8 +111,8 @@ both_none at from fs gs b none = record {
   other = report_none from gs b none ∙ ap whole (sym (added_none gs));
 }
 
-both_stop : (at from : ℕ) (fs gs b : List ℕ) (some : length b ≡ 0 → ⊥) (m : ℕ) → step_of b fs ≡ Refused m
-    → step_of b gs ≡ Refused m → Both at from fs gs b
+both_stop : (at from : ℕ) (fs gs b : List ℕ) (some : length b ≡ 0 → ⊥) (m : ℕ) → step_of b fs ≡ Err m
+    → step_of b gs ≡ Err m → Both at from fs gs b
 both_stop at from fs gs b some m e f = record {
   more = [];
   end = RefusedAt m 0;
@@ -123,8 +123,8 @@ both_stop at from fs gs b some m e f = record {
     same : (n : ℕ) (hs : List ℕ) → ended_by m n hs ≡ ended (added hs []) (RefusedAt m (n + 0))
     same n hs = let p : n + 0 ≡ n = omega arith in rw (p, added_none hs) refl
 
-both_on : (at from : ℕ) (fs gs b : List ℕ) (some : length b ≡ 0 → ⊥) (n : ℕ) → step_of b fs ≡ Taken n
-    → step_of b gs ≡ Taken n → Both (at + n) (from + n) (figures_after b fs) (figures_after b gs) (drop n b)
+both_on : (at from : ℕ) (fs gs b : List ℕ) (some : length b ≡ 0 → ⊥) (n : ℕ) → step_of b fs ≡ Ok n
+    → step_of b gs ≡ Ok n → Both (at + n) (from + n) (figures_after b fs) (figures_after b gs) (drop n b)
     → Both at from fs gs b
 both_on at from fs gs b some n e f rest = record {
   more = plus (figures_of (content_at b)) rest.more;
@@ -143,7 +143,7 @@ abbrev Not76 : Reported → Type 0
 Not76 r = ended_by76 r.ending ≡ false
 
 not_76 : (at : ℕ) (fs b : List ℕ) → (length b ≡ 0 → ⊥) → Not76 (report_from at fs b)
-    → step_of b fs ≡ Refused too_many_files → ⊥
+    → step_of b fs ≡ Err too_many_files → ⊥
 not_76 at fs b some not e =
     let ends : ended_by76 (report_from at fs b).ending ≡ true
     = ap (λ (r : Reported). ended_by76 r.ending) (report_stop at fs b some e) in
@@ -161,7 +161,7 @@ run_both = report_induction AddSame record {
       both_stop at from fs gs b some m e (step_alike b fs some gs fewer (not_76 at fs b some not) ∙ e);
   on = λ at fs b some n e rest from gs long fewer not.
       let xs : List ℕ = figures_of (content_at b) in
-      let f : step_of b gs ≡ Taken n = step_alike b fs some gs fewer (not_76 at fs b some not) ∙ e in
+      let f : step_of b gs ≡ Ok n = step_alike b fs some gs fewer (not_76 at fs b some not) ∙ e in
       both_on at from fs gs b some n e f (rest (from + n) (figures_after b gs)
       (rw (taken_adds b fs some e, taken_adds b gs some f, added_length fs xs, added_length gs xs) long)
       (rw (taken_adds b fs some e, taken_adds b gs some f) (files_more fs gs xs long fewer))

@@ -3,6 +3,7 @@
 -- gives the same answer (Parts). If they are not, the file is refused by its first block or with 74, and the part
 -- contains the first block too (`unfit_window`). So a step over the part is the step over the whole (`window_step`,
 -- `window_after`), and the report follows by induction on the number of steps. Assumes nothing.
+use Rattle.std.specs.Prelude.{Err, Ok, Result, ℕ}
 use mathlib.Core.Path.{◌≡◌, refl}
 use mathlib.Core.Bool.{Bool, true, false}
 use mathlib.Core.List.{List, []}
@@ -21,8 +22,6 @@ use Rattle.tablefile.proofs.Fronts.{header_front, counts_small, taken_few}
 use Rattle.figures.specs.Counting.{figures_of}
 use Rattle.figures.specs.Reporting.{most_files, window_check, step_check, counted, step_of}
 use Rattle.figures.specs.Reporting.{figures_after, whole, after_step, report_in, report_from, report_of}
-use Rattle.figures.specs.declared.Stepped.{Stepped}
-use Rattle.figures.specs.declared.Stepped.TheVariants.{Taken, Refused}
 use Rattle.figured.specs.Said.{window_bytes, through_in, through}
 use Rattle.figured.proofs.Parts.{part_step, part_after}
 
@@ -105,13 +104,13 @@ module _ (room : ℕ → ℕ) (enough : (at : ℕ) → window_bytes ≤ room at)
   steps_through (suc k) at fs left =
       go (eqb (length left) 0) refl (λ n gs. steps_through k (at + n) gs (drop n left))
     where
-      follows : (s : Stepped) (gs : List ℕ)
+      follows : (s : Result ℕ ℕ) (gs : List ℕ)
           → ((n : ℕ) (hs : List ℕ)
           → through_in room k (at + n) hs (drop n left) ≡ report_in k (at + n) hs (drop n left))
           → after_step s at fs (λ n. through_in room k (at + n) gs (drop n left))
           ≡ after_step s at fs (λ n. report_in k (at + n) gs (drop n left))
-      follows (Taken n) gs rest = rest n gs
-      follows (Refused m) gs rest = refl
+      follows (Ok n) gs rest = rest n gs
+      follows (Err m) gs rest = refl
 
       go : (z : Bool) → eqb (length left) 0 ≡ z
           → ((n : ℕ) (hs : List ℕ)

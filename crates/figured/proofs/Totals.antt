@@ -4,6 +4,8 @@
 -- Every number of the module pass is 10 to 19 or 50 to 61, by induction over the trees in the order in which the pass
 -- visits them (`module_known`), and each such number is counted once (`counted_once`). So the errors by number are
 -- all errors (`errors_all`). Assumes nothing.
+use Rattle.std.specs.Prelude.{Err, Ok, Result}
+use Rattle.deflist.specs.declared.Fault.{Fault}
 use mathlib.Core.Path.{◌≡◌, refl, sym, ap, ap₂, ◌∙◌}
 use mathlib.Core.Bool.{Bool, true, false, ◌&&◌, not}
 use mathlib.Core.Logic.{◌⊎◌, inl, inr}
@@ -31,13 +33,11 @@ use Rattle.deflist.specs.Unpack.{modes}
 use Rattle.deflist.specs.Limited.{limited}
 use Rattle.deflist.specs.Told.{told}
 use Rattle.deflist.specs.declared.Counts.{Counts}
-use Rattle.deflist.specs.declared.Judged.{Judged}
-use Rattle.deflist.specs.declared.Judged.TheVariants.{Accepted, Refused}
 use Rattle.parameters.specs.Indices.{counted_of}
 use Rattle.parameters.specs.Params.{list_of, params_of}
 use Rattle.parameters.proofs.Accepted.{accepted_passed}
 use Rattle.arguments.specs.Job.{call_of}
-use Rattle.errors.specs.declared.Err.{Err}
+use Rattle.errors.specs.declared.Finding.{Finding}
 use Rattle.errors.specs.declared.Listing.TheVariants.{Own}
 use Rattle.errors.specs.Errors.{unless, is_list_error, without_lists, kept}
 use Rattle.validate.specs.Params.{not_permitted, permits, is_mark, every_mark, marks, unpack_error}
@@ -137,27 +137,27 @@ module _ (t names : List ℕ) where
 abbrev pub Known : ℕ → Type 0
 Known n = ((10 ≤ n) × (n ≤ 19)) ⊎ ((50 ≤ n) × (n ≤ 61))
 
-abbrev EachKnown : List Err → Type 0
+abbrev EachKnown : List Finding → Type 0
 EachKnown [] = Unit {0}
 EachKnown (e ∷ es) = Known e.number × EachKnown es
 
-pub record AllKnown (es : List Err) : Type 0 where
+pub record AllKnown (es : List Finding) : Type 0 where
   pub each : EachKnown es
 
 known_none : AllKnown []
 known_none = record { each = tt }
 
-known_one : {e : Err} → Known e.number → AllKnown (e ∷ [])
+known_one : {e : Finding} → Known e.number → AllKnown (e ∷ [])
 known_one k = record { each = (k, tt) }
 
-known_both : {es fs : List Err} → AllKnown es → AllKnown fs → AllKnown (es ++ fs)
+known_both : {es fs : List Finding} → AllKnown es → AllKnown fs → AllKnown (es ++ fs)
 known_both {es} {fs} p q = record { each = go es p.each }
   where
-    go : (gs : List Err) → EachKnown gs → EachKnown (gs ++ fs)
+    go : (gs : List Finding) → EachKnown gs → EachKnown (gs ++ fs)
     go [] h = q.each
     go (g ∷ gs) h = (h.0, go gs h.1)
 
-known_if : (b : Bool) (x y : Unit {0} → List Err) → AllKnown (x tt) → AllKnown (y tt) → AllKnown (if' b x y)
+known_if : (b : Bool) (x y : Unit {0} → List Finding) → AllKnown (x tt) → AllKnown (y tt) → AllKnown (if' b x y)
 known_if true x y p q = p
 known_if false x y p q = q
 
@@ -181,15 +181,15 @@ error_known : (owner : Node) (ps : List Param) → AllKnown (unpack_error (told 
 unfolding without_lists
 error_known owner ps = go (told (limited owner ps)) (list_left owner ps)
   where
-    one_of : (n : ℕ) (b : Bool) (e : Err) → is_list_error n ≡ b
-        → if' {A = List Err} b (λ _. []) (λ _. e ∷ []) ≡ [] → Known n
+    one_of : (n : ℕ) (b : Bool) (e : Finding) → is_list_error n ≡ b
+        → if' {A = List Finding} b (λ _. []) (λ _. e ∷ []) ≡ [] → Known n
     one_of n true e is h =
         inl (leb-true 10 n (and_left (leb 10 n) (leb n 19) is), leb-true n 19 (and_right (leb 10 n) (leb n 19) is))
     one_of n false e is h = never (sym (ap length h))
 
-    go : (j : Judged) → kept Own (unpack_error j) ≡ [] → AllKnown (unpack_error j)
-    go (Accepted c) h = known_none
-    go (Refused x) h = known_one (one_of x.number (is_list_error x.number) _ refl h)
+    go : (j : Result Counts Fault) → kept Own (unpack_error j) ≡ [] → AllKnown (unpack_error j)
+    go (Ok c) h = known_none
+    go (Err x) h = known_one (one_of x.number (is_list_error x.number) _ refl h)
 
 module _ (d : Dialect) (names : List ℕ) where
   known_marks : (m : Mark) (ps : List Param) → AllKnown (marks d m ps)
@@ -211,7 +211,7 @@ module _ (d : Dialect) (names : List ℕ) where
       (known_with d.enable_lambda lambda_not_permitted r ks (inr (omega arith, omega arith))) known_none)
 
   -- a statement, if the errors below it have known numbers in every place
-  module _ (s : Standing) (r : Node) (ks : Forest) (visit : Standing → List Err)
+  module _ (s : Standing) (r : Node) (ks : Forest) (visit : Standing → List Finding)
       (below : (p : Standing) → AllKnown (visit p)) where
     abbrev Fine : Arm → Type 0
     Fine a = AllKnown (on_arm d names s r ks visit a)
@@ -328,7 +328,7 @@ unfolding sum_of
 sum_append [] ys = omega arith
 sum_append (x ∷ xs) ys = omega (arith, sum_append xs ys)
 
-known_counted : (es : List Err) → EachKnown es → sum_of (error_counts (numbers_of es)) ≡ length es
+known_counted : (es : List Finding) → EachKnown es → sum_of (error_counts (numbers_of es)) ≡ length es
 unfolding error_counts numbers_of occurrences_from occurrences sum_of
 known_counted [] h = refl
 known_counted (e ∷ es) h =

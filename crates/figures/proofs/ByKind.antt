@@ -3,6 +3,7 @@
 -- the limit fits the room (`mode_there`, `mode_away`). For a Call, `arguments::judge` on the records is `call_of` of
 -- the node. Any other node adds nothing. The loop keeps that the figures of the first i nodes are added as one sum
 -- (`walk_on`). Cite `node_list`, `node_call` and `node_other`. Assumes nothing.
+use Rattle.std.specs.Prelude.{Err, Ok}
 use mathlib.Core.Path.{◌≡◌, refl, sym, ap, ◌∙◌}
 use mathlib.Core.Bool.{true, false}
 use mathlib.Core.List.{List, [], ◌∷◌}
@@ -29,7 +30,6 @@ use Rattle.deflist.specs.Limited.{limited}
 use Rattle.deflist.specs.Told.{told}
 use Rattle.deflist.specs.declared.Counts.{Counts}
 use Rattle.deflist.specs.declared.Fault.{Fault}
-use Rattle.deflist.specs.declared.Judged.TheVariants.{Accepted, Refused}
 use Rattle.deflist.proofs.Limited.{limited_short, limited_accepted}
 use Rattle.parameters.specs.Params.{list_of, params_of}
 use Rattle.parameters.proofs.Accepted.{accepted_passed, passed_accepted}
@@ -42,8 +42,8 @@ use Rattle.figures.proofs.Additions.{added_zeros, added_trailing, added_twice}
 use Rattle.figures.proofs.Lists.{mode_counts, modes_counted}
 
 -- a refused answer is not accepted
-not_accepted : {o : def.Outcome} {f : Fault} → told o ≡ Refused f → {c : Counts} → o ≡ def.accepted c → ⊥
-not_accepted {o} {f} h {c} e = let both : Accepted c ≡ Refused f = sym (ap told e) ∙ h in never (cc)
+not_accepted : {o : def.Outcome} {f : Fault} → told o ≡ Err f → {c : Counts} → o ≡ def.accepted c → ⊥
+not_accepted {o} {f} h {c} e = let both : Ok c ≡ Err f = sym (ap told e) ∙ h in never (cc)
 
 module _ {t names : List ℕ} {i : ℕ} (n : NodeIn t names i) where
   clean : Clean t names

@@ -2,6 +2,7 @@
 -- lengths of its parts, and its modes are runs of equal modes, one for each part. So the lengths of the ranges are
 -- the numbers of occurrences of the modes (`modes_counted`). The ranges follow one another (`ranged`), so no
 -- subtraction goes below 0. Assumes nothing.
+use Rattle.std.specs.Prelude.{Err, Ok, Result}
 use mathlib.Core.Path.{◌≡◌, refl, sym, ap, ◌∙◌}
 use mathlib.Core.List.{List, [], ◌∷◌, ◌++◌}
 use Prim.Native.Nat.{ℕ, ◌+◌, ◌-◌}
@@ -15,8 +16,6 @@ use Rattle.deflist.specs.Unpack.{Outcome, accepted, refused, repeated, internal,
 use Rattle.deflist.specs.Limited.{limited}
 use Rattle.deflist.specs.Told.{told}
 use Rattle.deflist.specs.declared.Counts.{Counts}
-use Rattle.deflist.specs.declared.Judged.{Judged}
-use Rattle.deflist.specs.declared.Judged.TheVariants.{Accepted, Refused}
 use Rattle.deflist.specs.declared.Fault.{Fault}
 use Rattle.deflist.proofs.Limited.{limited_accepted}
 use Rattle.demand3.specs.Cut.{Star, no_star, bare, starred, Last, no_kwargs, with_kwargs, Cut, args_part, kwargs_part}
@@ -27,8 +26,6 @@ use Rattle.table.specs.Answer.{Answer}
 use Rattle.table.specs.declared.Refusal.{Refusal}
 use Rattle.arguments.specs.Job.{called}
 use Rattle.arguments.specs.declared.CallArgs.{CallArgs}
-use Rattle.arguments.specs.declared.Called.{Called}
-use Rattle.arguments.specs.declared.Called.TheVariants as calls
 use Rattle.figures.specs.Adding.{added}
 use Rattle.figures.specs.Counting.{occurrences}
 use Rattle.figures.specs.Walking.{only, plus, places, Ranged, RangedIn, range_counts, judged_counts}
@@ -126,7 +123,7 @@ modes_added a {b} {c} {d} {e} {f} v w x y z b_is c-is d-is e-is f-is =
     f-is ∙ rw three (added_next a (0 ∷ 0 ∷ 0 ∷ v ∷ w ∷ x ∷ y ∷ []) z)
 
 -- if a list is accepted, its ranges follow one another
-pub told_ranged : (owner : Node) (l : List Param) {j : Judged} → j ≡ told (limited owner l) → RangedIn j
+pub told_ranged : (owner : Node) (l : List Param) {j : Result Counts Fault} → j ≡ told (limited owner l) → RangedIn j
 told_ranged owner l j-is = rw j-is (go (limited owner l) refl)
   where
     go : (o : Outcome) → limited owner l ≡ o → RangedIn (told o)
@@ -135,7 +132,7 @@ told_ranged owner l j-is = rw j-is (go (limited owner l) refl)
     go (repeated k r) e = tt
     go (internal k r) e = tt
 
-pub ranged_accepted : {j : Judged} → RangedIn j → {c : Counts} → j ≡ Accepted c → Ranged c
+pub ranged_accepted : {j : Result Counts Fault} → RangedIn j → {c : Counts} → j ≡ Ok c → Ranged c
 ranged_accepted r e = rw e at r
 
 -- what the code counts from the ranges, with its own counts of `*args` and `**kwargs`
@@ -144,15 +141,15 @@ pub ranges_are : (c : Counts) {a k : ℕ} → a ≡ places c.args → k ≡ plac
     ∷ (c.flat.0 - (c.num_positional.0 + a + k)) ∷ a ∷ k ∷ [] ≡ range_counts c
 ranges_are c a-is k_is = rw (a-is, k_is) refl
 
-pub counts_accepted : {j : Judged} {c : Counts} → j ≡ Accepted c → {l : List ℕ} → l ≡ range_counts c
+pub counts_accepted : {j : Result Counts Fault} {c : Counts} → j ≡ Ok c → {l : List ℕ} → l ≡ range_counts c
     → l ≡ judged_counts j
 counts_accepted e l-is = rw e l-is
 
-pub counts_refused : {j : Judged} {f : Fault} → j ≡ Refused f → 0 ∷ 0 ∷ 0 ∷ 0 ∷ 0 ∷ [] ≡ judged_counts j
+pub counts_refused : {j : Result Counts Fault} {f : Fault} → j ≡ Err f → 0 ∷ 0 ∷ 0 ∷ 0 ∷ 0 ∷ [] ≡ judged_counts j
 counts_refused e = rw e refl
 
 -- what the code adds for a list
-pub list_added : (start : List ℕ) {j k : Judged} → j ≡ k → {xs : List ℕ} → xs ≡ added start (only 2 1)
+pub list_added : (start : List ℕ) {j k : Result Counts Fault} → j ≡ k → {xs : List ℕ} → xs ≡ added start (only 2 1)
     → {m n q r s : ℕ} → m ∷ n ∷ q ∷ r ∷ s ∷ [] ≡ judged_counts j
     → {ys : List ℕ} → ys ≡ added xs (0 ∷ 0 ∷ 0 ∷ m ∷ n ∷ q ∷ r ∷ s ∷ []) → ys ≡ added start (list_figures k)
 unfolding only plus
@@ -162,14 +159,14 @@ list_added start {j} {k} j-is xs-is {m} {n} {q} {r} {s} e ys-is =
     ys-is ∙ rw xs-is (added_twice start (only 2 1) _ ∙ ap (added start) figures)
 
 -- what the code adds for a call
-module _ (start : List ℕ) {r : Called} {a : Answer} (r-is : called r ≡ a) {ys : List ℕ} where
-  pub call_accepted : {x : CallArgs} → r ≡ calls.Accepted x → ys ≡ added start (only 8 1)
+module _ (start : List ℕ) {r : Result CallArgs Refusal} {a : Answer} (r-is : called r ≡ a) {ys : List ℕ} where
+  pub call_accepted : {x : CallArgs} → r ≡ Ok x → ys ≡ added start (only 8 1)
       → ys ≡ added start (call_figures a)
   unfolding only
   call_accepted h ys-is = ys-is ∙ sym (added_trailing start (only 8 1) 1)
       ∙ ap (λ (b : Answer). added start (call_figures b)) (ap called (sym h) ∙ r-is)
 
-  pub call_refused : {why : Refusal} → r ≡ calls.Refused why → ys ≡ added start (only 9 1)
+  pub call_refused : {why : Refusal} → r ≡ Err why → ys ≡ added start (only 9 1)
       → ys ≡ added start (call_figures a)
   unfolding only
   call_refused h ys-is = ys-is ∙ ap (λ (b : Answer). added start (call_figures b)) (ap called (sym h) ∙ r-is)

@@ -9,13 +9,13 @@ use mathlib.Core.List.{List, [], ◌∷◌, ◌++◌}
 use Prim.Native.Nat.{ℕ, zero, suc, ◌+◌, ◌-◌, ◌*◌, ◌<◌, ◌≤◌}
 use native.Mathlib.Omega.{arith}
 use lib.ListN.{length, get_or, take, drop, replicate, length-replicate}
-use lib.Seq.{take-suc, take-append_seam}
+use lib.Seq.{take-suc, take_all, take-append_seam}
 use lib.Dec.{eqb, leb}
 use borrow.Author.Tests.{eq-eqb, ne_eqb, le-leb, leb-true}
 use Rattle.fields.specs.Choice.{if'}
 use Rattle.fields.proofs.Basics.{clash, and_left, and_right, and_both, le_or_lt}
 use Rattle.dialect.specs.declared.Dialect.{Dialect}
-use Rattle.errors.specs.declared.Err.{Err}
+use Rattle.errors.specs.declared.Finding.{Finding}
 use Rattle.errors.specs.declared.Listing.TheVariants.{Numbers}
 use Rattle.errors.specs.Errors.{kept, stored}
 use Rattle.errors.proofs.Storing.{all_words, stored_all, stored_length}
@@ -149,43 +149,39 @@ module _ {n : ℕ} where
   pub module_most : (leb 50 n && leb n 61) ≡ true → n ≤ 61
   module_most h = leb-true n 61 (and_right (leb 50 n) (leb n 61) h)
 
--- the invariant of `add_numbers`: of the first n numbers, the first i are counted
-pub record Counting (start found : List ℕ) (n : ℕ) (figures : List ℕ) (i : ℕ) : Type 0 where
-  pub upto : i ≤ n
-  pub there : n ≤ length found
+-- the invariant of `add_numbers`: the first i numbers are counted
+pub record Counting (start found figures : List ℕ) (i : ℕ) : Type 0 where
+  pub upto : i ≤ length found
   pub is : figures ≡ added start (error_figures (take i found))
 
-pub counting_start : (start found : List ℕ) (n : ℕ) → n ≤ length found → Counting start found n start 0
+pub counting_start : (start found : List ℕ) → Counting start found start 0
 unfolding error_figures error_counts occurrences_from occurrences
-counting_start start found n h = record { upto = omega arith; there = h; is = sym (added_zeros start 32) }
+counting_start start found = record { upto = omega arith; is = sym (added_zeros start 32) }
 
-module _ {start found : List ℕ} {n : ℕ} {figures : List ℕ} {i : ℕ} (c : Counting start found n figures i) where
-  pub counting_on : i < n → {x : ℕ} → x ≡ get_or found i 0 → {ys : List ℕ} → ys ≡ added figures (error_figures (x ∷ []))
-      → Counting start found n ys (i + 1)
-  counting_on h {x} x-is {ys} ys-is = record { upto = omega arith; there = c.there; is = so }
+module _ {start found figures : List ℕ} {i : ℕ} (c : Counting start found figures i) where
+  pub counting_on : i < length found → {x : ℕ} → x ≡ get_or found i 0 → {ys : List ℕ}
+      → ys ≡ added figures (error_figures (x ∷ [])) → Counting start found ys (i + 1)
+  counting_on h {x} x-is {ys} ys-is = record { upto = omega arith; is = so }
     where
       more : take (i + 1) found ≡ take i found ++ x ∷ []
-      more =
-          let next : i + 1 ≡ suc i = omega arith in
-          rw (next, x-is) (take-suc found i 0 (omega (arith, c.there)))
+      more = let next : i + 1 ≡ suc i = omega arith in rw (next, x-is) (take-suc found i 0 h)
 
       so : ys ≡ added start (error_figures (take (i + 1) found))
       so = ys-is ∙ rw (c.is, more, errors_append (take i found) (x ∷ []))
           (added_twice start (error_figures (take i found)) (error_figures (x ∷ [])))
 
-  pub counting_there : i < n → i < length found
-  counting_there h = omega (arith, c.there)
-
-  pub counting_end : n ≤ i → figures ≡ added start (error_figures (take n found))
-  counting_end h = let e : i ≡ n = omega (arith, c.upto) in rw e at c.is
+  pub counting_end : length found ≤ i → figures ≡ added start (error_figures found)
+  counting_end h =
+      let all : take i found ≡ found = take_all i found h in
+      rw all at c.is
 
 -- a list with room for all errors, in the form Numbers, holds the number of each
-numbers_length : (es : List Err) → length (numbers_of es) ≡ length es
+numbers_length : (es : List Finding) → length (numbers_of es) ≡ length es
 unfolding numbers_of
 numbers_length [] = refl
 numbers_length (e ∷ es) = ap suc (numbers_length es)
 
-numbers_words : (es : List Err) → all_words Numbers es ≡ numbers_of es
+numbers_words : (es : List Finding) → all_words Numbers es ≡ numbers_of es
 unfolding numbers_of
 numbers_words [] = refl
 numbers_words (e ∷ es) = ap (λ (r : List ℕ). e.number ∷ r) (numbers_words es)
@@ -193,7 +189,7 @@ numbers_words (e ∷ es) = ap (λ (r : List ℕ). e.number ∷ r) (numbers_words
 module _ (d : Dialect) (names t : List ℕ) (few : length t ≤ 50400) {found : List ℕ} {n : ℕ}
     (n_is : n ≡ length (kept Numbers (pass_errors d names t)))
     (found-is : found ≡ stored Numbers (kept Numbers (pass_errors d names t)) (replicate 4200 0)) where
-  es : List Err
+  es : List Finding
   es = pass_errors d names t
 
   short : length es ≤ 4200
@@ -219,6 +215,6 @@ module _ (d : Dialect) (names t : List ℕ) (few : length t ≤ 50400) {found : 
       take_front xs ys k e = rw (← e) (take-append_seam xs ys)
 
   -- the counters after the loop over them
-  pub errors_added : (start : List ℕ) {figures : List ℕ} → figures ≡ added start (error_figures (take n found))
+  pub errors_added : (start : List ℕ) {figures : List ℕ} → figures ≡ added start (error_figures (take (n - 0) found))
       → figures ≡ added start (error_figures (numbers_of (pass_errors d names t)))
-  errors_added start h = h ∙ rw numbers_found refl
+  errors_added start h = h ∙ (let all : n - 0 ≡ n = omega arith in rw (all, numbers_found) refl)

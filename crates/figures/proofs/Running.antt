@@ -3,6 +3,7 @@
 -- a report from that place: `report_none`, `report_on` and `report_stop` are its three cases, and callers need no
 -- others. The loop's invariant is that the counters so far, with the report of the rest, make the report of the input
 -- (`Running`). Assumes nothing.
+use Rattle.std.specs.Prelude.{Err, Ok, Result, ℕ}
 use mathlib.Core.Path.{◌≡◌, refl, sym, ap, ◌∙◌}
 use mathlib.Core.Bool.{Bool, true, false}
 use mathlib.Core.List.{List, []}
@@ -25,13 +26,11 @@ use Rattle.table.specs.Numbers.{too_many_files}
 use Rattle.figures.specs.Reporting.{most_files, window_check, step_check, told, counted, step_of}
 use Rattle.figures.specs.Reporting.{figures_after, whole, ended_by, after_step, report_in, report_from, zeros}
 use Rattle.figures.specs.Reporting.{report_of}
-use Rattle.figures.specs.declared.Stepped.{Stepped}
-use Rattle.figures.specs.declared.Stepped.TheVariants.{Taken, Refused}
 use Rattle.figures.proofs.Windows.{taken_least}
 
 -- each return of `step`: no byte; 76; the file at the front
 module _ (w fs : List ℕ) where
-  pub step_empty : length w ≡ 0 → (Taken 0 ≡ step_of w fs) × (fs ≡ figures_after w fs)
+  pub step_empty : length w ≡ 0 → (Ok 0 ≡ step_of w fs) × (fs ≡ figures_after w fs)
   unfolding step_of figures_after
   step_empty e = rw (eq-eqb (length w) 0 e) (refl, refl)
 
@@ -44,22 +43,22 @@ module _ (w fs : List ℕ) where
     unfolding figures_after
     after_is = rw (ne_eqb (length w) 0 some) refl
 
-    pub step_many : most_files ≤ get_or fs 0 0 → (Refused too_many_files ≡ step_of w fs) × (fs ≡ figures_after w fs)
+    pub step_many : most_files ≤ get_or fs 0 0 → (Err too_many_files ≡ step_of w fs) × (fs ≡ figures_after w fs)
     unfolding step_check
     step_many h = rw (step_is, after_is, le-ltb (get_or fs 0 0) most_files h) (refl, refl)
 
-    pub step_front : get_or fs 0 0 < most_files → {s : Stepped} {ys : List ℕ}
+    pub step_front : get_or fs 0 0 < most_files → {s : Result ℕ ℕ} {ys : List ℕ}
         → s ≡ told (window_check w) (header_at w).taken → ys ≡ counted (window_check w) fs (figures_of (content_at w))
         → (s ≡ step_of w fs) × (ys ≡ figures_after w fs)
     unfolding step_check
     step_front h s-is ys-is = rw (step_is, after_is, lt-ltb (get_or fs 0 0) most_files h) (s-is, ys-is)
 
     -- LAW: a step that continues takes the file at the front, which is present whole
-    pub taken_fits : {n : ℕ} → step_of w fs ≡ Taken n → (1 ≤ n) × (n ≤ length w)
+    pub taken_fits : {n : ℕ} → step_of w fs ≡ Ok n → (1 ≤ n) × (n ≤ length w)
     unfolding step_check window_check
     taken_fits {n} e = go (step_check w fs) refl (sym step_is ∙ e)
       where
-        go : (a : Answer) → step_check w fs ≡ a → told a (header_at w).taken ≡ Taken n → (1 ≤ n) × (n ≤ length w)
+        go : (a : Answer) → step_check w fs ≡ a → told a (header_at w).taken ≡ Ok n → (1 ≤ n) × (n ≤ length w)
         go (accepted vs) c f =
             let is : (header_at w).taken ≡ n = cc in
             let behind = passed_both (demand (ltb (get_or fs 0 0) most_files) too_many_files) (λ _. window_check w) c in
@@ -69,10 +68,10 @@ module _ (w fs : List ℕ) where
         go (refused k vs) c f = never (cc)
 
     -- LAW: a refusal changes nothing
-    pub refused_keeps : {k : ℕ} → step_of w fs ≡ Refused k → figures_after w fs ≡ fs
+    pub refused_keeps : {k : ℕ} → step_of w fs ≡ Err k → figures_after w fs ≡ fs
     refused_keeps {k} e = rw after_is (go (step_check w fs) (sym step_is ∙ e))
       where
-        go : (a : Answer) → told a (header_at w).taken ≡ Refused k → counted a fs (figures_of (content_at w)) ≡ fs
+        go : (a : Answer) → told a (header_at w).taken ≡ Err k → counted a fs (figures_of (content_at w)) ≡ fs
         go (accepted vs) f = never (cc)
         go (refused m vs) f = refl
 
@@ -85,14 +84,14 @@ enough (suc k) zero at fs bs h g = rw (eq-eqb (length bs) 0 (omega arith)) refl
 enough (suc k) (suc m) at fs bs h g =
     go (eqb (length bs) 0) refl (step_of bs fs) refl (λ n ds i j. enough k m (at + n) ds (drop n bs) i j)
   where
-    go : (z : Bool) → eqb (length bs) 0 ≡ z → (s : Stepped) → step_of bs fs ≡ s
+    go : (z : Bool) → eqb (length bs) 0 ≡ z → (s : Result ℕ ℕ) → step_of bs fs ≡ s
         → ((n : ℕ) (ds : List ℕ) → length (drop n bs) ≤ k → length (drop n bs) ≤ m
         → report_in k (at + n) ds (drop n bs) ≡ report_in m (at + n) ds (drop n bs))
         → if' z (λ _. whole fs) (λ _. after_step s at fs (λ n. report_in k (at + n) (figures_after bs fs) (drop n bs)))
         ≡ if' z (λ _. whole fs) (λ _. after_step s at fs (λ n. report_in m (at + n) (figures_after bs fs) (drop n bs)))
     go true z s e rest = refl
-    go false z (Refused n) e rest = refl
-    go false z (Taken n) e rest =
+    go false z (Err n) e rest = refl
+    go false z (Ok n) e rest =
         let t = taken_fits bs fs (eqb-false (length bs) 0 z) e in
         rest n (figures_after bs fs) (omega (arith, t, length-drop n bs)) (omega (arith, t, length-drop n bs))
 
@@ -110,7 +109,7 @@ module _ (at : ℕ) (fs bs : List ℕ) where
         let k : length bs ≡ suc (length bs - 1) = omega (arith, some) in
         ap (λ (m : ℕ). report_in m at fs bs) k ∙ rw (ne_eqb (length bs) 0 some) refl
 
-    pub report_on : {n : ℕ} → step_of bs fs ≡ Taken n
+    pub report_on : {n : ℕ} → step_of bs fs ≡ Ok n
         → report_from at fs bs ≡ report_from (at + n) (figures_after bs fs) (drop n bs)
     unfolding report_from
     report_on {n} e =
@@ -118,7 +117,7 @@ module _ (at : ℕ) (fs bs : List ℕ) where
         one ∙ rw e (enough (length bs - 1) (length (drop n bs)) (at + n) (figures_after bs fs) (drop n bs)
         (omega (arith, t, length-drop n bs)) (omega arith))
 
-    pub report_stop : {k : ℕ} → step_of bs fs ≡ Refused k → report_from at fs bs ≡ ended_by k at fs
+    pub report_stop : {k : ℕ} → step_of bs fs ≡ Err k → report_from at fs bs ≡ ended_by k at fs
     report_stop e = one ∙ rw e refl
 
 -- the invariant of the loop over the files: the report of the rest decides
@@ -135,7 +134,7 @@ module _ {input fs : List ℕ} {at : ℕ} (r : Running input fs at) where
   pub run_end : length input ≤ at → whole fs ≡ report_of input
   run_end h = sym (report_none at fs (drop at input) (omega (arith, length-drop at input))) ∙ r.same
 
-  module _ (h : at < length input) {s : Stepped} {ys : List ℕ}
+  module _ (h : at < length input) {s : Result ℕ ℕ} {ys : List ℕ}
       (s-is : s ≡ step_of (take (length input - at) (drop at input)) fs)
       (ys-is : ys ≡ figures_after (take (length input - at) (drop at input)) fs) where
     some : length (drop at input) ≡ 0 → ⊥
@@ -147,12 +146,12 @@ module _ {input fs : List ℕ} {at : ℕ} (r : Running input fs at) where
     ys_so : ys ≡ figures_after (drop at input) fs
     ys_so = ys-is ∙ rw (tail_part at input) refl
 
-    pub run_fits : {n : ℕ} → s ≡ Taken n → (1 ≤ n) × (at + n ≤ length input)
+    pub run_fits : {n : ℕ} → s ≡ Ok n → (1 ≤ n) × (at + n ≤ length input)
     run_fits {n} e =
         let t = taken_fits (drop at input) fs some (sym s_so ∙ e) in
         (t.0, omega (arith, t, length-drop at input))
 
-    pub run_on_lem : {n : ℕ} → s ≡ Taken n → Running input ys (at + n)
+    pub run_on_lem : {n : ℕ} → s ≡ Ok n → Running input ys (at + n)
     run_on_lem {n} e =
         let t = run_fits e in
         let next : drop n (drop at input) ≡ drop (at + n) input = drop_behind n in
@@ -164,7 +163,7 @@ module _ {input fs : List ℕ} {at : ℕ} (r : Running input fs at) where
         drop_behind : (n : ℕ) → drop n (drop at input) ≡ drop (at + n) input
         drop_behind n = rw (drop-drop n at input) refl
 
-    pub run_stop : {k : ℕ} → s ≡ Refused k → ended_by k at ys ≡ report_of input
+    pub run_stop : {k : ℕ} → s ≡ Err k → ended_by k at ys ≡ report_of input
     run_stop {k} e =
         let stays : ys ≡ fs = ys_so ∙ refused_keeps (drop at input) fs some (sym s_so ∙ e) in
         rw stays (sym (report_stop at fs (drop at input) some (sym s_so ∙ e)) ∙ r.same)

@@ -2,6 +2,7 @@
 -- table that passes 1 to 5 their sum is `table_figures` (`figures_are`), because no two parts have a counter in common
 -- and the module pass reads the whole table. The other laws are the returns of `add_table` and `add_all`. Assumes
 -- nothing.
+use Rattle.std.specs.Prelude.{Err, Ok, Option, Result}
 use mathlib.Core.Path.{◌≡◌, refl, sym, ap, ◌∙◌}
 use mathlib.Core.List.{List, []}
 use Prim.Native.Nat.{ℕ, ◌/◌, ◌≤◌}
@@ -10,11 +11,8 @@ use lib.ListN.{length, take}
 use lib.Seq.{take_all}
 use Rattle.dialect.specs.declared.Dialect.{Dialect}
 use Rattle.dialect.specs.declared.Edition.{Edition}
-use Rattle.dialect.specs.declared.EditionRead.{EditionRead}
 use Rattle.table.specs.Answer.{accepted, number_of, carried, refusal}
 use Rattle.table.specs.Check.{check_of, given_of, in_dialect, by_rules, unruled, ruled, rules_of, rules_check}
-use Rattle.table.specs.declared.Ruled.{Ruled}
-use Rattle.table.specs.declared.Ruled.TheVariants.{By, Refused as Away}
 use Rattle.table.specs.declared.Refusal.{Refusal}
 use Rattle.table.proofs.Entering.{given_known}
 use Rattle.table.proofs.Ruling.{rules_known}
@@ -48,31 +46,32 @@ pub table_few : (t names : List ℕ) → check_of t names ≡ accepted [] → le
 table_few t names e = (accepted_clean t names e).most
 
 -- the returns of `add_table`: x is the edition that was read, g the answer of `enter_rules`
-module _ (t names bytes : List ℕ) (x : EditionRead) {g : Ruled} (g-is : ruled g ≡ rules_of t names bytes x) where
-  by_is : {d : Dialect} {e : Edition} → g ≡ By d e → rules_of t names bytes x ≡ by_rules d e
+module _ (t names bytes : List ℕ) (x : Option Edition) {g : Result (Dialect × Edition) Refusal}
+    (g-is : ruled g ≡ rules_of t names bytes x) where
+  by_is : {p : Dialect × Edition} → g ≡ Ok p → rules_of t names bytes x ≡ by_rules p.0 p.1
   by_is h = sym g-is ∙ ap ruled h
 
-  given_is : {d : Dialect} {e : Edition} → g ≡ By d e → given_of t names bytes ≡ in_dialect d
+  given_is : {p : Dialect × Edition} → g ≡ Ok p → given_of t names bytes ≡ in_dialect p.0
   given_is h = (rules_known t names bytes (by_is h)).0
 
-  away_is : {why : Refusal} → g ≡ Away why → rules_of t names bytes x ≡ unruled (number_of why) (carried why)
+  away_is : {why : Refusal} → g ≡ Err why → rules_of t names bytes x ≡ unruled (number_of why) (carried why)
   away_is h = sym g-is ∙ ap ruled h
 
-  pub given_sound : {d : Dialect} {e : Edition} → g ≡ By d e → check_of t names ≡ accepted []
+  pub given_sound : {p : Dialect × Edition} → g ≡ Ok p → check_of t names ≡ accepted []
   given_sound h = clean_accepted t names (given_known t names bytes (given_is h)).0
 
   -- the counters after the file is counted, and at the end
   module _ (start : List ℕ) {k : ℕ} (k_is : k ≡ files_of g) {xs : List ℕ} (xs-is : xs ≡ added start (only 0 k)) where
-    pub table_added : {d : Dialect} {e : Edition} → g ≡ By d e → {ys : List ℕ} → ys ≡ added xs (figures_in d t names)
+    pub table_added : {p : Dialect × Edition} → g ≡ Ok p → {ys : List ℕ} → ys ≡ added xs (figures_in p.0 t names)
         → (accepted [] ≡ rules_check t names bytes x)
         × (ys ≡ counted (rules_check t names bytes x) start (table_figures t names bytes))
-    table_added {d} h {ys} ys-is =
+    table_added {p} h {ys} ys-is =
         let one : k ≡ 1 = k_is ∙ ap files_of h in
-        let first : ys ≡ added (added start (only 0 1)) (figures_in d t names) = ys-is ∙ rw (xs-is, one) refl in
+        let first : ys ≡ added (added start (only 0 1)) (figures_in p.0 t names) = ys-is ∙ rw (xs-is, one) refl in
         let figures = figures_are t names bytes (given_is h) in
         rw (by_is h) (refl, first ∙ added_twice start (only 0 1) _ ∙ ap (added start) figures)
 
-    pub table_refused : {why : Refusal} → g ≡ Away why
+    pub table_refused : {why : Refusal} → g ≡ Err why
         → (refusal why ≡ rules_check t names bytes x)
         × (xs ≡ counted (rules_check t names bytes x) start (table_figures t names bytes))
     unfolding only

@@ -3,6 +3,8 @@
 -- `content_window`), because a file's blocks lie within it, and it is no longer than the file, so 75 does not arise
 -- (`read_window`). A refusal of `tablefile::unpack` is then that of the step (`window_refused`), and else 1 to 5 on
 -- the unpacked table decide (`window_answer`, `window_figures`). Assumes nothing.
+use Rattle.std.specs.Prelude.{Err, Ok, Option, Result, ℕ}
+use Rattle.dialect.specs.declared.Edition.{Edition}
 use mathlib.Core.Path.{◌≡◌, refl, sym, ap, ◌∙◌}
 use mathlib.Core.List.{List}
 use Prim.Native.Nat.{ℕ, ◌+◌, ◌*◌, ◌-◌, ◌^◌, ◌<◌, ◌≤◌}
@@ -13,11 +15,7 @@ use borrow.Author.Tests.{le-leb}
 use Rattle.fields.proofs.Basics.{drop_take}
 use Rattle.table.specs.Answer.{Answer, and_then, number_of, refusal, checked}
 use Rattle.dialect.specs.Editions.{stated_bytes, edition_held}
-use Rattle.dialect.specs.declared.EditionRead.{EditionRead}
-use Rattle.dialect.specs.declared.Stated.{Stated}
 use Rattle.table.specs.Check.{rules_check}
-use Rattle.table.specs.declared.Checked.{Checked}
-use Rattle.table.specs.declared.Checked.TheVariants as judgements
 use Rattle.table.specs.declared.Refusal.{Refusal}
 use Rattle.blocks.specs.Run.{blocks_for}
 use Rattle.blocks.proofs.Parts.{judge_front, run_front, content_front}
@@ -26,15 +24,11 @@ use Rattle.tablefile.specs.Reading.{header_at, used_of, content_at, blocks_check
 use Rattle.tablefile.specs.Loading.{verdict}
 use Rattle.tablefile.specs.Lending.{file_check, handed}
 use Rattle.tablefile.specs.declared.Heading.{Heading}
-use Rattle.tablefile.specs.declared.Verdict.{Verdict}
-use Rattle.tablefile.specs.declared.Verdict.TheVariants.{Accepted, Refused}
 use Rattle.tablefile.proofs.Fronts.{header_front, first_is, taken_is, dialect_few, edition_few}
 use Rattle.tablefile.proofs.Lends.{read_steps, unpacked_few, unpacked_table_long, unpacked_names_long}
 use Rattle.tablefile.proofs.Lends.{unpacked_table, unpacked_names}
 use Rattle.figures.specs.Counting.{table_figures, figures_of}
 use Rattle.figures.specs.Reporting.{window_check, told, counted}
-use Rattle.figures.specs.declared.Stepped.{Stepped}
-use Rattle.figures.specs.declared.Stepped.TheVariants as steps
 
 -- the bytes whose number the header of a window gives
 abbrev pub file_in : List ℕ → List ℕ
@@ -93,7 +87,8 @@ module _ (w : List ℕ) where
   window_steps = sym read_window ∙ read_steps (file_in w) ∙ rw content_window refl
 
 -- the returns of `add_front`: h is the header of the window, f the file, v the answer of `tablefile::unpack`
-module _ (w : List ℕ) {h : Heading} (h-is : h ≡ header_at w) {f : List ℕ} (f-is : f ≡ take h.taken w) (v : Verdict)
+module _ (w : List ℕ) {h : Heading} (h-is : h ≡ header_at w) {f : List ℕ} (f-is : f ≡ take h.taken w)
+    (v : Result (Unit {0}) Refusal)
     (v-is : verdict v ≡ file_check f) where
   f_so : f ≡ file_in w
   f_so = f-is ∙ rw h-is refl
@@ -104,14 +99,14 @@ module _ (w : List ℕ) {h : Heading} (h-is : h ≡ header_at w) {f : List ℕ} 
   steps_so : window_check w ≡ and_then (verdict v) (λ _. sound_check (content_at w))
   steps_so = window_steps w ∙ rw (v-is, f_so) refl
 
-  pub window_refused : {why : Refusal} → v ≡ Refused why → {n : ℕ} → n ≡ number_of why → (start : List ℕ)
-      → (steps.Refused n ≡ told (window_check w) (header_at w).taken)
+  pub window_refused : {why : Refusal} → v ≡ Err why → {n : ℕ} → n ≡ number_of why → (start : List ℕ)
+      → (Err n ≡ told (window_check w) (header_at w).taken)
       × (start ≡ counted (window_check w) start (figures_of (content_at w)))
   window_refused {why} e n_is start =
       let so : window_check w ≡ refusal why = steps_so ∙ rw e refl in
       rw (so, n_is) (refl, refl)
 
-  module _ (good : v ≡ Accepted) where
+  module _ (good : v ≡ Ok tt) where
     pub window_fits : 24 * h.nodes < 2 ^ 64
     window_fits = omega (arith, unpacked_few f v v-is good h_so)
 
@@ -127,8 +122,8 @@ module _ (w : List ℕ) {h : Heading} (h-is : h ≡ header_at w) {f : List ℕ} 
         (wt_is : wt ≡ handed (file_check f) (content_at f).table (replicate 50400 0))
         (wn-is : wn ≡ handed (file_check f) (content_at f).names (replicate 8064 0))
         (t-is : t ≡ take (24 * h.nodes) wt) (names-is : names ≡ take h.names wn)
-        (bytes_is : bytes ≡ (content_at f).dialect) {stated : Stated} (stated_is : stated ≡ (content_at f).edition)
-        {x : EditionRead} (x-is : x ≡ edition_held bytes (stated_bytes stated)) where
+        (bytes_is : bytes ≡ (content_at f).dialect) {stated : Option ℕ} (stated_is : stated ≡ (content_at f).edition)
+        {x : Option Edition} (x-is : x ≡ edition_held bytes (stated_bytes stated)) where
       same : content_at f ≡ content_at w
       same = ap content_at f_so ∙ content_window w
 
@@ -147,7 +142,7 @@ module _ (w : List ℕ) {h : Heading} (h-is : h ≡ header_at w) {f : List ℕ} 
       sound_so : rules_check t names bytes x ≡ window_check w
       sound_so = rw (x-is, stated_so, t_so, names_so, bytes_so) (sym (steps_so ∙ rw good refl))
 
-      pub window_answer : {a : Answer} {s : Stepped} → a ≡ rules_check t names bytes x → s ≡ told a h.taken
+      pub window_answer : {a : Answer} {s : Result ℕ ℕ} → a ≡ rules_check t names bytes x → s ≡ told a h.taken
           → s ≡ told (window_check w) (header_at w).taken
       window_answer a-is s-is = s-is ∙ rw (a-is, sound_so, h-is) refl
 
@@ -157,9 +152,9 @@ module _ (w : List ℕ) {h : Heading} (h-is : h ≡ header_at w) {f : List ℕ} 
       window_figures start ys-is = ys-is ∙ rw (sound_so, t_so, names_so, bytes_so) refl
 
 -- the answer of a step, from that of 1 to 5
-pub answer_sound : (j : Checked) (n : ℕ) → j ≡ judgements.Sound → steps.Taken n ≡ told (checked j) n
+pub answer_sound : (j : Result (Unit {0}) Refusal) (n : ℕ) → j ≡ Ok tt → Ok n ≡ told (checked j) n
 answer_sound j n e = rw e refl
 
-pub answer_refused : (j : Checked) (n : ℕ) {why : Refusal} → j ≡ judgements.Refused why → {k : ℕ} → k ≡ number_of why
-    → steps.Refused k ≡ told (checked j) n
+pub answer_refused : (j : Result (Unit {0}) Refusal) (n : ℕ) {why : Refusal} → j ≡ Err why → {k : ℕ} → k ≡ number_of why
+    → Err k ≡ told (checked j) n
 answer_refused j n e k_is = rw (e, k_is) refl

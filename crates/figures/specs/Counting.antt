@@ -11,7 +11,7 @@ use Rattle.deflist.specs.Unpack.{modes}
 use Rattle.deflist.specs.Unpack.{mode_pos_only, mode_pos_or_name, mode_name_only, mode_args, mode_kwargs}
 use Rattle.parameters.specs.Params.{list_of, params_of}
 use Rattle.arguments.specs.Job.{call_of}
-use Rattle.errors.specs.declared.Err.{Err}
+use Rattle.errors.specs.declared.Finding.{Finding}
 use Rattle.validate.specs.Job.{errors_of}
 use Rattle.tablefile.specs.File.{Content}
 
@@ -60,7 +60,7 @@ abbrev pub over : List ℕ → (ℕ → ℕ) → ℕ
 over t f = total (nodes_of t) f
 
 -- the numbers of errors, in their order
-unfoldable pub numbers_of : List Err → List ℕ
+unfoldable pub numbers_of : List Finding → List ℕ
 numbers_of [] = []
 numbers_of (e ∷ es) = e.number ∷ numbers_of es
 

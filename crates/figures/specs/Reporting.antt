@@ -1,6 +1,6 @@
 -- A report over files one after another: one step over the file at the front, and the report of an input. These are
 -- definitions.
-use Rattle.std.specs.Prelude.{List, ℕ, zero, suc, ◌+◌, length, get_or, drop, replicate, eqb, ltb}
+use Rattle.std.specs.Prelude.{List, ℕ, zero, suc, ◌+◌, length, get_or, drop, replicate, eqb, ltb, Err, Ok, Result}
 use Rattle.fields.specs.Choice.{if'}
 use Rattle.table.specs.Numbers.{too_many_files}
 use Rattle.table.specs.Answer.{Answer, accepted, refused, and_then}
@@ -8,8 +8,6 @@ use Rattle.blocks.specs.Block.{demand}
 use Rattle.tablefile.specs.Reading.{header_at, content_at, front_check, sound_check}
 use Rattle.figures.specs.Counting.{figures_of}
 use Rattle.figures.specs.Adding.{added}
-use Rattle.figures.specs.declared.Stepped.{Stepped}
-use Rattle.figures.specs.declared.Stepped.TheVariants.{Taken, Refused}
 use Rattle.figures.specs.declared.Ending.TheVariants.{Whole, Refused as RefusedAt}
 use Rattle.figures.specs.declared.Reported.{Reported}
 
@@ -27,17 +25,17 @@ unfoldable pub step_check : List ℕ → List ℕ → Answer
 step_check w figures = and_then (demand (ltb (get_or figures 0 0) most_files) too_many_files) (λ _. window_check w)
 
 -- the answer of a step, given the check of the file at the front, which takes n bytes; and the counters afterwards
-abbrev pub told : Answer → ℕ → Stepped
-told (accepted vs) n = Taken n
-told (refused k vs) n = Refused k
+abbrev pub told : Answer → ℕ → Result ℕ ℕ
+told (accepted vs) n = Ok n
+told (refused k vs) n = Err k
 
 abbrev pub counted : Answer → List ℕ → List ℕ → List ℕ
 counted (accepted vs) figures more = added figures more
 counted (refused k vs) figures more = figures
 
 -- a step: the number of bytes that the file at the front takes, 0 if there is no byte, or why it is refused
-unfoldable pub step_of : List ℕ → List ℕ → Stepped
-step_of w figures = if' (eqb (length w) 0) (λ _. Taken 0) (λ _. told (step_check w figures) (header_at w).taken)
+unfoldable pub step_of : List ℕ → List ℕ → Result ℕ ℕ
+step_of w figures = if' (eqb (length w) 0) (λ _. Ok 0) (λ _. told (step_check w figures) (header_at w).taken)
 
 -- the counters afterwards: the file's figures are added, and a refusal changes nothing
 unfoldable pub figures_after : List ℕ → List ℕ → List ℕ
@@ -52,9 +50,9 @@ abbrev pub ended_by : ℕ → ℕ → List ℕ → Reported
 ended_by number at figures = record { figures = figures; ending = RefusedAt number at }
 
 -- what follows a step from a place on
-abbrev pub after_step : Stepped → ℕ → List ℕ → (ℕ → Reported) → Reported
-after_step (Taken n) at figures next = next n
-after_step (Refused k) at figures next = ended_by k at figures
+abbrev pub after_step : Result ℕ ℕ → ℕ → List ℕ → (ℕ → Reported) → Reported
+after_step (Ok n) at figures next = next n
+after_step (Err k) at figures next = ended_by k at figures
 
 -- the report of the rest of an input, from a place on, with the counters so far, in at most k steps
 unfoldable pub report_in : ℕ → ℕ → List ℕ → List ℕ → Reported

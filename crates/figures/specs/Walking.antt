@@ -1,18 +1,16 @@
 -- What private functions of the crate add to the counters, and what they may assume. These are definitions that only
 -- contracts of private functions use.
-use Rattle.std.specs.Prelude.{◌≡◌, List, [], ◌∷◌, ◌++◌, ℕ, ◌+◌, ◌-◌, ◌≤◌, ◌<◌, replicate}
+use Rattle.std.specs.Prelude.{◌≡◌, List, [], ◌∷◌, ◌++◌, ℕ, ◌+◌, ◌-◌, ◌≤◌, ◌<◌, replicate, Err, None, Ok, Option, Result, Some}
+use Rattle.table.specs.declared.Refusal.{Refusal}
+use Rattle.dialect.specs.declared.Edition.{Edition}
+use Rattle.deflist.specs.declared.Flat.{Flat}
+use Rattle.deflist.specs.declared.Fault.{Fault}
 use Rattle.table.specs.Answer.{Answer, accepted, passes, is_refused}
 use Rattle.table.specs.Check.{check_of}
-use Rattle.table.specs.declared.Ruled.{Ruled}
-use Rattle.table.specs.declared.Ruled.TheVariants.{By, Refused as Away}
 use Rattle.dialect.specs.declared.Dialect.{Dialect}
 use Rattle.validate.specs.Job.{pass_errors}
 use Rattle.deflist.specs.Unpack.{mode_pos_only, mode_pos_or_name, mode_name_only, mode_args, mode_kwargs}
 use Rattle.deflist.specs.declared.Counts.{Counts}
-use Rattle.deflist.specs.declared.FlatPlace.{FlatPlace}
-use Rattle.deflist.specs.declared.FlatPlace.TheVariants.{AtFlat, NoFlat}
-use Rattle.deflist.specs.declared.Judged.{Judged}
-use Rattle.deflist.specs.declared.Judged.TheVariants.{Accepted, Refused}
 use Rattle.figures.specs.Counting.{one, nodes_of, total, list_at, mode_at, accepted_at, refused_at, numbers_of}
 use Rattle.figures.specs.Counting.{error_counts}
 
@@ -27,18 +25,18 @@ plus (x ∷ xs) [] = x ∷ xs
 plus (x ∷ xs) (y ∷ ys) = (x + y) ∷ plus xs ys
 
 -- the number of `*args` or of `**kwargs`: 0 or 1
-abbrev pub places : FlatPlace → ℕ
-places (AtFlat i) = 1
-places NoFlat = 0
+abbrev pub places : Option Flat → ℕ
+places (Some i) = 1
+places None = 0
 
 -- the five ranges that unpack has counted follow one another
 pub record Ranged (c : Counts) : Type 0 where
   pub before : c.num_positional_only.0 ≤ c.num_positional.0
   pub behind : c.num_positional.0 + places c.args + places c.kwargs ≤ c.flat.0
 
-abbrev pub RangedIn : Judged → Type 0
-RangedIn (Accepted c) = Ranged c
-RangedIn (Refused f) = Unit {0}
+abbrev pub RangedIn : Result Counts Fault → Type 0
+RangedIn (Ok c) = Ranged c
+RangedIn (Err f) = Unit {0}
 
 -- the lengths of the ranges, in the order of the modes
 abbrev pub range_counts : Counts → List ℕ
@@ -48,12 +46,12 @@ range_counts c =
     ∷ places c.kwargs ∷ []
 
 -- the same, from unpack's answer for a list: a refused list has no modes
-abbrev pub judged_counts : Judged → List ℕ
-judged_counts (Accepted c) = range_counts c
-judged_counts (Refused f) = 0 ∷ 0 ∷ 0 ∷ 0 ∷ 0 ∷ []
+abbrev pub judged_counts : Result Counts Fault → List ℕ
+judged_counts (Ok c) = range_counts c
+judged_counts (Err f) = 0 ∷ 0 ∷ 0 ∷ 0 ∷ 0 ∷ []
 
 -- what one list adds: the list, and its modes
-abbrev pub list_figures : Judged → List ℕ
+abbrev pub list_figures : Result Counts Fault → List ℕ
 list_figures j = 0 ∷ 0 ∷ 1 ∷ judged_counts j
 
 -- what one call adds, from the answer of its job
@@ -80,9 +78,9 @@ unfoldable pub error_figures : List ℕ → List ℕ
 error_figures ns = replicate 10 0 ++ error_counts ns
 
 -- the number of files that are counted: 1 if 1 to 5 are passed
-abbrev pub files_of : Ruled → ℕ
-files_of (By d e) = 1
-files_of (Away r) = 0
+abbrev pub files_of : Result (Dialect × Edition) Refusal → ℕ
+files_of (Ok p) = 1
+files_of (Err r) = 0
 
 -- the figures of a table in a dialect, without the file itself: nodes, what is counted node by node, errors
 unfoldable pub figures_in : Dialect → List ℕ → List ℕ → List ℕ

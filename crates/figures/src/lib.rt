@@ -15,10 +15,9 @@ ghost use Rattle.figures.specs.Adding.{added};
 ghost use Rattle.figures.specs.Walking.{files_of, figures_in};
 ghost use Rattle.figures.specs.Reporting.{window_check, told as told_of, counted, step_of, figures_after, report_of};
 
-use dialect::{Dialect, EditionRead};
+use dialect::{Dialect, Edition};
 use forest::RECORD;
-use table::{Checked, MOST_BYTES, MOST_NAMES, Ruled, numbers};
-use tablefile::Verdict;
+use table::{MOST_BYTES, MOST_NAMES, Refusal, numbers};
 
 // The number of counters of a report. Their order: files; nodes; parameter lists; flat parameters of the modes 1 to 5
 // in accepted lists; calls accepted; calls refused; errors of the module pass by number, 10 to 19, then 50 to 61.
@@ -42,13 +41,6 @@ pub const ERRORS: usize = 10;
 // The largest number of files in a report.
 pub const MOST_FILES: u64 = 4294967295;
 
-// The answer of a step: the number of bytes that the file at the front takes, or the number with which it is refused.
-#[derive(Clone, Copy)]
-pub enum Stepped {
-    Taken(usize),
-    Refused(u32),
-}
-
 // The end of a report: the end of the input, or a refused file, with its number and the position of its first byte.
 #[derive(Clone, Copy)]
 pub enum Ending {
@@ -69,13 +61,14 @@ pub fn report(input: &[u8]) -> Reported
 {
     let mut figures = [0u64; FIGURES];
     let mut at = 0;
+    // Each file says its own length, so that a `for` over pieces of one length does not go over them.
     while at < input.len() {
         let stepped = step(&input[at..], &mut figures);
         match stepped {
-            Stepped::Taken(n) => {
+            Ok(n) => {
                 at += n;
             }
-            Stepped::Refused(number) => {
+            Err(number) => {
                 return Reported {
                     figures: figures,
                     ending: Ending::Refused {
@@ -94,22 +87,22 @@ pub fn report(input: &[u8]) -> Reported
 
 // One step: adds the file at the front of a window, and returns the number of bytes that it takes; 0 if the window is
 // empty. Refuses with 76, then 70 to 74, then 1 to 5, and a refusal changes no counter. Sums are limited to 64 bits.
-pub fn step(window: &[u8], figures: &mut [u64; FIGURES]) -> Stepped
+pub fn step(window: &[u8], figures: &mut [u64; FIGURES]) -> Result<usize, u32>
     ensures value { result ≡ step_of window.now figures.old }
     ensures figures_after { figures.new ≡ figures_after window.now figures.old }
 {
     if window.len() == 0 {
-        return Stepped::Taken(0);
+        return Ok(0);
     }
     if MOST_FILES <= figures[FILES] {
-        return Stepped::Refused(numbers::TOO_MANY_FILES);
+        return Err(numbers::TOO_MANY_FILES);
     }
     add_front(window, figures)
 }
 
 // Checks the file at the front of a window, 70 to 74 and 1 to 5, then adds its figures. Only the bytes of that file are
 // read, so no byte is left over.
-fn add_front(window: &[u8], figures: &mut [u64; FIGURES]) -> Stepped
+fn add_front(window: &[u8], figures: &mut [u64; FIGURES]) -> Result<usize, u32>
     ensures value { result ≡ told_of (window_check window.now) (header_at window.now).taken }
     ensures figures_after { figures.new ≡
         counted (window_check window.now) figures.old
@@ -120,8 +113,8 @@ fn add_front(window: &[u8], figures: &mut [u64; FIGURES]) -> Stepped
     let h = tablefile::header(window);
     let file = filepass::front(window, h.taken);
     let unpacked = tablefile::unpack(file, &mut table, &mut names);
-    if let Verdict::Refused(why) = unpacked {
-        return Stepped::Refused(table::number(why));
+    if let Err(why) = unpacked {
+        return Err(table::number(why));
     }
     let bytes = tablefile::dialect_bytes(file);
     let edition = dialect::edition_held(bytes, tablefile::stated_edition(file));
@@ -136,12 +129,12 @@ fn add_front(window: &[u8], figures: &mut [u64; FIGURES]) -> Stepped
 }
 
 // The answer of a step for a file of `taken` bytes.
-fn answer(judged: Checked, taken: usize) -> Stepped
+fn answer(judged: Result<(), Refusal>, taken: usize) -> Result<usize, u32>
     ensures { result ≡ told_of (checked judged) taken }
 {
     match judged {
-        Checked::Sound => Stepped::Taken(taken),
-        Checked::Refused(why) => Stepped::Refused(table::number(why)),
+        Ok(()) => Ok(taken),
+        Err(why) => Err(table::number(why)),
     }
 }
 
@@ -150,9 +143,9 @@ fn add_table(
     table: &[u8],
     names: &[u8],
     bytes: &[u8],
-    edition: EditionRead,
+    edition: Option<Edition>,
     figures: &mut [u64; FIGURES],
-) -> Checked
+) -> Result<(), Refusal>
     ensures result_value { checked result ≡
         rules_check table.now names.now bytes.now edition }
     ensures figures_after { figures.new ≡
@@ -161,28 +154,18 @@ fn add_table(
 {
     let entered = table::enter_rules(table, names, bytes, edition);
     sums::add(figures, FILES, files(entered));
-    match entered {
-        Ruled::By {
-            dialect: d,
-            edition: _,
-        } => {
-            add_all(table, names, d, figures);
-            Checked::Sound
-        }
-        Ruled::Refused(why) => Checked::Refused(why),
-    }
+    let (d, _) = entered?;
+    add_all(table, names, d, figures);
+    Ok(())
 }
 
 // The number of files that are counted: 1 if 1 to 5 are passed, else 0.
-fn files(entered: Ruled) -> u64
+fn files(entered: Result<(Dialect, Edition), Refusal>) -> u64
     ensures { result ≡ files_of entered }
 {
     match entered {
-        Ruled::By {
-            dialect: _,
-            edition: _,
-        } => 1,
-        Ruled::Refused(_) => 0,
+        Ok(_) => 1,
+        Err(_) => 0,
     }
 }
 

@@ -13,8 +13,7 @@ ghost use Rattle.figures.specs.Walking.{places as places_of, Ranged, RangedIn, r
 ghost use Rattle.figures.specs.Walking.{list_figures, call_figures, node_figures, nodes_figures, NodeIn};
 
 use crate::{CALLS_ACCEPTED, CALLS_REFUSED, FIGURES, LISTS, MODES, sums};
-use arguments::Called;
-use deflist::{Counts, FlatPlace, Judged};
+use deflist::{Counts, Fault, Flat};
 use forest::RECORD;
 use soundness::kinds;
 
@@ -34,10 +33,8 @@ pub(crate) fn add_nodes(table: &[u8], names: &[u8], count: usize, figures: &mut 
     ensures { figures.new ≡
         added figures.old (nodes_figures table.now names.now count) }
 {
-    let mut i = 0;
-    while i < count {
+    for i in 0..count {
         add_node(table, names, i, figures);
-        i += 1;
     }
 }
 
@@ -80,14 +77,14 @@ fn add_modes(m: Modes, figures: &mut [u64; FIGURES])
 }
 
 // The modes of a list that is accepted; a refused one has none.
-fn modes_of(judged: Judged) -> Modes
+fn modes_of(judged: Result<Counts, Fault>) -> Modes
     requires { RangedIn judged }
     ensures { result.pos_only ∷ result.pos_or_named ∷ result.named_only ∷ result.args ∷ result.kwargs ∷ [] ≡
         judged_counts judged }
 {
     match judged {
-        Judged::Accepted(c) => lengths(c),
-        Judged::Refused(_) => Modes {
+        Ok(c) => lengths(c),
+        Err(_) => Modes {
             pos_only: 0,
             pos_or_named: 0,
             named_only: 0,
@@ -120,12 +117,12 @@ fn lengths(c: Counts) -> Modes
 }
 
 // The number of `*args` or of `**kwargs`: 0 or 1.
-fn places(p: FlatPlace) -> u64
+fn places(p: Option<Flat>) -> u64
     ensures { result ≡ places_of p }
 {
     match p {
-        FlatPlace::AtFlat(_) => 1,
-        FlatPlace::NoFlat => 0,
+        Some(_) => 1,
+        None => 0,
     }
 }
 
@@ -136,7 +133,7 @@ fn add_call(names: &[u8], t: &[u8], node: u32, figures: &mut [u64; FIGURES])
 {
     let called = arguments::judge(names, t, node);
     match called {
-        Called::Accepted(_) => sums::add(figures, CALLS_ACCEPTED, 1),
-        Called::Refused(_) => sums::add(figures, CALLS_REFUSED, 1),
+        Ok(_) => sums::add(figures, CALLS_ACCEPTED, 1),
+        Err(_) => sums::add(figures, CALLS_REFUSED, 1),
     }
 }

@@ -1,5 +1,5 @@
 // The errors of the module pass by number.
-ghost use Rattle.std.specs.Prelude.{◌≡◌, [], ◌∷◌, ◌≤◌, length, take};
+ghost use Rattle.std.specs.Prelude.{◌≡◌, [], ◌∷◌, ◌≤◌, length};
 ghost use Rattle.table.specs.Check.{most_bytes};
 ghost use Rattle.validate.specs.Job.{pass_errors};
 ghost use Rattle.figures.specs.Adding.{added};
@@ -25,19 +25,15 @@ pub(crate) fn add_errors(table: &[u8], names: &[u8], d: Dialect, figures: &mut [
 {
     let mut found = [0u32; MOST_ERRORS];
     let total = validate::pass(Listing::Numbers, table, names, d, &mut found);
-    add_numbers(&found, total as usize, figures);
+    add_numbers(&found[0..total as usize], figures);
 }
 
-// Adds the first `len` of some error numbers.
-fn add_numbers(found: &[u32], len: usize, figures: &mut [u64; FIGURES])
-    requires { len ≤ length found.now }
-    ensures { figures.new ≡
-        added figures.old (error_figures (take len found.now)) }
+// Adds some error numbers.
+fn add_numbers(found: &[u32], figures: &mut [u64; FIGURES])
+    ensures { figures.new ≡ added figures.old (error_figures found.now) }
 {
-    let mut i = 0;
-    while i < len {
-        add_number(found[i], figures);
-        i += 1;
+    for number in found {
+        add_number(*number, figures);
     }
 }
 

@@ -4,6 +4,7 @@
 -- and changes no word (`given_keeps`). So the answer is `answer_of` (`job_is_answer`) and the words are `words_after`
 -- (`job_is_words`), if an edition holds. The job does not read the edition; a bad one is refused before the job, with 1
 -- to 4 or 5 (`bad_edition`). Assumes nothing.
+use Rattle.std.specs.Prelude.{Err, None, Ok, Option, Result, Some, ℕ}
 use mathlib.Core.Path.{◌≡◌, refl, sym, ap, ◌∙◌}
 use mathlib.Core.Bool.{true, ◌&&◌}
 use mathlib.Core.List.{List, [], ◌∷◌}
@@ -17,17 +18,10 @@ use Rattle.fields.proofs.Basics.{and_left, and_right}
 use Rattle.dialect.specs.Bytes.{from_bytes}
 use Rattle.dialect.specs.Editions.{stated_bytes, edition_held}
 use Rattle.dialect.specs.declared.Dialect.{Dialect}
-use Rattle.dialect.specs.declared.Decoded.{Decoded}
-use Rattle.dialect.specs.declared.Decoded.TheVariants.{Valid, Invalid}
 use Rattle.dialect.specs.declared.Edition.{Edition}
-use Rattle.dialect.specs.declared.EditionRead.{EditionRead}
-use Rattle.dialect.specs.declared.EditionRead.TheVariants.{Known, Unknown}
-use Rattle.dialect.specs.declared.Stated.{Stated}
 use Rattle.table.specs.Numbers.{bad_dialect}
 use Rattle.table.specs.Answer.{Answer, accepted, refused, and_then, refusal, checked}
 use Rattle.table.specs.Check.{check_of, Handing, in_dialect, turned_away, handing, given_of, in_given, given_check}
-use Rattle.table.specs.declared.Checked.{Checked}
-use Rattle.table.specs.declared.Checked.TheVariants.{Sound, Refused as Unsound}
 use Rattle.table.specs.declared.Refusal.{Refusal}
 use Rattle.table.proofs.Answers.{after_both}
 use Rattle.table.proofs.Entering.{given_known, given_passed}
@@ -37,14 +31,10 @@ use Rattle.tablefile.specs.Reading.{header_at, content_at, edition_read, sound_c
 use Rattle.tablefile.specs.Loading.{verdict}
 use Rattle.tablefile.specs.Lending.{file_check, copied, Holds}
 use Rattle.tablefile.specs.declared.Heading.{Heading}
-use Rattle.tablefile.specs.declared.Verdict.{Verdict}
-use Rattle.tablefile.specs.declared.Verdict.TheVariants.{Accepted, Refused}
 use Rattle.tablefile.proofs.Lends.{read_steps, file_few, table_long, copied_holds, its_table, its_names}
 use Rattle.errors.specs.Errors.{stored}
 use Rattle.errors.specs.declared.Listing.TheVariants.{Module}
 use Rattle.validate.specs.Job.{listed, errors_in, errors_of, module_of, errors_after}
-use Rattle.validate.specs.declared.Listed.{Listed}
-use Rattle.validate.specs.declared.Listed.TheVariants.{Total, Refused as Away}
 use Rattle.filepass.specs.Sizes.{few_nodes, few_names}
 use Rattle.filepass.specs.Passing.{behind, held_answer, answer_of, if_read, words_after}
 
@@ -93,7 +83,7 @@ given_keeps t names bytes xs = go (given_of t names bytes)
     go (turned_away n vs) = refl
 
 -- a file in which an edition holds
-module _ (file : List ℕ) {e : Edition} (known : edition_read (content_at file) ≡ Known e) where
+module _ (file : List ℕ) {e : Edition} (known : edition_read (content_at file) ≡ Some e) where
   abbrev c : Content
   c = content_at file
 
@@ -131,39 +121,40 @@ pub bad_edition : (t names bytes : List ℕ)
 unfolding given_of
 bad_edition t names bytes = go (check_of t names) (from_bytes bytes)
   where
-    go : (a : Answer) (x : Decoded)
+    go : (a : Answer) (x : Option Dialect)
         → and_then (in_given (handing a x) (λ _. accepted [])) (λ _. refused bad_dialect [])
         ≡ and_then a (λ _. refused bad_dialect [])
-    go (accepted vs) (Valid d) = refl
-    go (accepted vs) Invalid = refl
+    go (accepted vs) (Some d) = refl
+    go (accepted vs) None = refl
     go (refused n vs) x = refl
 
 -- the answer of `table::check` on such a file, as a refusal
-pub refused_sound : (t names : List ℕ) (f : Checked) → checked f ≡ check_of t names → f ≡ Sound
+pub refused_sound : (t names : List ℕ) (f : Result (Unit {0}) Refusal) → checked f ≡ check_of t names → f ≡ Ok tt
     → refused bad_dialect [] ≡ and_then (check_of t names) (λ _. refused bad_dialect [])
 refused_sound t names f f-is e = rw (← f-is, e) refl
 
-pub refused_unsound : (t names : List ℕ) (f : Checked) → checked f ≡ check_of t names → {why : Refusal}
-    → f ≡ Unsound why → refusal why ≡ and_then (check_of t names) (λ _. refused bad_dialect [])
+pub refused_unsound : (t names : List ℕ) (f : Result (Unit {0}) Refusal) → checked f ≡ check_of t names
+    → {why : Refusal}
+    → f ≡ Err why → refusal why ≡ and_then (check_of t names) (λ _. refused bad_dialect [])
 refused_unsound t names f f-is e = rw (← f-is, e) refl
 
 -- the answer of a job, with the number of nodes
-pub told_total : (n : ℕ) (m : Listed) {k : ℕ} → m ≡ Total k → accepted (n ∷ k ∷ []) ≡ behind n (listed m)
+pub told_total : (n : ℕ) (m : Result ℕ Refusal) {k : ℕ} → m ≡ Ok k → accepted (n ∷ k ∷ []) ≡ behind n (listed m)
 told_total n m e = rw e refl
 
-pub told_refused : (n : ℕ) (m : Listed) {why : Refusal} → m ≡ Away why → refusal why ≡ behind n (listed m)
+pub told_refused : (n : ℕ) (m : Result ℕ Refusal) {why : Refusal} → m ≡ Err why → refusal why ≡ behind n (listed m)
 told_refused n m e = rw e refl
 
 -- the returns of `check_file`: v is the answer of `tablefile::judge_file`
-module _ (file : List ℕ) (v : Verdict) (v-is : verdict v ≡ file_check file) where
-  pub file_refused : (xs : List ℕ) {why : Refusal} → v ≡ Refused why
+module _ (file : List ℕ) (v : Result (Unit {0}) Refusal) (v-is : verdict v ≡ file_check file) where
+  pub file_refused : (xs : List ℕ) {why : Refusal} → v ≡ Err why
       → (refusal why ≡ answer_of file) × (xs ≡ words_after file xs)
   unfolding answer_of words_after
   file_refused xs {why} e =
       let told : file_check file ≡ refusal why = sym v-is ∙ ap verdict e in
       (rw (read_steps file, told) refl, rw (read_steps file, told) refl)
 
-  module _ (good : v ≡ Accepted) where
+  module _ (good : v ≡ Ok tt) where
     pub file_passes : file_check file ≡ accepted []
     file_passes = sym v-is ∙ ap verdict good
 
@@ -203,8 +194,9 @@ module _ {file w wn : List ℕ} (holds : Holds file w wn) {h : Heading} (h-is : 
   nodes_word = omega (arith, file_few file holds.passed h-is)
 
   module _ {t names bytes : List ℕ} (t-is : t ≡ take (24 * h.nodes) w) (names-is : names ≡ take h.names wn)
-      (bytes_is : bytes ≡ (content_at file).dialect) {stated : Stated} (stated_is : stated ≡ (content_at file).edition)
-      {x : EditionRead} (x-is : x ≡ edition_held bytes (stated_bytes stated)) where
+      (bytes_is : bytes ≡ (content_at file).dialect) {stated : Option ℕ}
+      (stated_is : stated ≡ (content_at file).edition)
+      {x : Option Edition} (x-is : x ≡ edition_held bytes (stated_bytes stated)) where
     t_so : t ≡ (content_at file).table
     t_so = t-is ∙ its_table holds h-is
 
@@ -218,7 +210,7 @@ module _ {file w wn : List ℕ} (holds : Holds file w wn) {h : Heading} (h-is : 
     edition_so = rw (x-is, bytes_is, stated_is) refl
 
     -- a bad edition: `why` is the refusal with 1 to 4, or with 5
-    module _ (bad : x ≡ Unknown) (why : Refusal)
+    module _ (bad : x ≡ None) (why : Refusal)
         (why-is : refusal why ≡ and_then (check_of t names) (λ _. refused bad_dialect [])) where
       unsound : sound_check (content_at file) ≡ refusal why
       unsound =
@@ -235,7 +227,7 @@ module _ {file w wn : List ℕ} (holds : Holds file w wn) {h : Heading} (h-is : 
       bad_words xs = rw (read_steps file, holds.passed, unsound) refl
 
     -- m is the answer of the module job, a the same with the number of nodes, and ys the words at its exit
-    module _ {e : Edition} (held : x ≡ Known e) where
+    module _ {e : Edition} (held : x ≡ Some e) where
       pub file_answer : {m a : Answer} → m ≡ module_of t names bytes → a ≡ behind h.nodes m → a ≡ answer_of file
       file_answer m_is a-is = a-is ∙ rw (m_is, ← nodes_so, t_so, names_so, bytes_is)
           (rw holds.passed at (job_is_answer file (edition_so ∙ held)))

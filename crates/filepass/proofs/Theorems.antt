@@ -14,7 +14,7 @@ use Rattle.tablefile.specs.File.{Content}
 use Rattle.tablefile.specs.Reading.{header_at, content_at, read_check}
 use Rattle.tablefile.proofs.Fronts.{table_length_lem}
 use Rattle.tablefile.proofs.Accepted.{read_fronted, read_is_sound}
-use Rattle.errors.specs.declared.Err.{Err}
+use Rattle.errors.specs.declared.Finding.{Finding}
 use Rattle.errors.specs.Errors.{width}
 use Rattle.errors.specs.declared.Listing.TheVariants.{Module}
 use Rattle.errors.proofs.Storing.{all_words}
@@ -35,7 +35,7 @@ module _ (file : List ℕ) (good : read_check file ≡ accepted []) where
   abbrev c : Content
   c = content_at file
 
-  abbrev errors : List Err
+  abbrev errors : List Finding
   errors = errors_of c.table c.names c.dialect
 
   sound : given_check c.table c.names c.dialect ≡ accepted []

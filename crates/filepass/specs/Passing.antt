@@ -1,16 +1,16 @@
 -- The answer for a table file, and the list of words at exit. These are definitions.
-use Rattle.std.specs.Prelude.{List, [], ◌∷◌, ℕ, ◌/◌, length}
+use Rattle.std.specs.Prelude.{List, [], ◌∷◌, ℕ, ◌/◌, length, Err, Ok, Result}
+use Rattle.table.specs.declared.Refusal.{Refusal}
 use Rattle.forest.specs.Forest.{record_bytes}
 use Rattle.table.specs.Answer.{Answer, accepted, refused, and_then, refusal}
 use Rattle.tablefile.specs.Reading.{content_at, read_check}
 use Rattle.validate.specs.Job.{module_of, errors_after}
 use Rattle.filepass.specs.declared.Passed.{Passed}
-use Rattle.filepass.specs.declared.Passed.TheVariants.{Listed, Refused}
 
 -- the meaning of the code's answer: accepted with the number of nodes and the total of errors, or refused
-abbrev pub passed : Passed → Answer
-passed (Listed nodes total) = accepted (nodes ∷ total ∷ [])
-passed (Refused r) = refusal r
+abbrev pub passed : Result Passed Refusal → Answer
+passed (Ok p) = accepted (p.nodes ∷ p.total ∷ [])
+passed (Err r) = refusal r
 
 -- an answer with one value more in front
 abbrev pub behind : ℕ → Answer → Answer

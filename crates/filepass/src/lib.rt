@@ -14,12 +14,10 @@ ghost use Rattle.filepass.specs.Sizes.{enough_bytes, enough_words, few_nodes, fe
 ghost use Rattle.filepass.specs.Passing.{passed, behind, answer_of, words_after};
 
 use blocks::BLOCK_BYTES;
-use dialect::EditionRead;
 use errors::WIDTH;
 use forest::RECORD;
-use table::{Checked, MOST_BYTES, MOST_NAMES, MOST_NODES, Refusal, numbers};
-use tablefile::{MOST_BLOCKS, Verdict};
-use validate::Listed;
+use table::{MOST_BYTES, MOST_NAMES, MOST_NODES, Refusal, numbers};
+use tablefile::MOST_BLOCKS;
 
 // The number of bytes of a file that decide its answer: the 117 blocks of the largest file, and one byte.
 pub const ENOUGH_BYTES: usize = BLOCK_BYTES * MOST_BLOCKS + 1;
@@ -37,19 +35,20 @@ const FEW_BYTES: usize = RECORD * FEW_NODES;
 
 // The answer for a file: its number of nodes and of errors, or why it is refused.
 #[derive(Clone, Copy)]
-pub enum Passed {
-    Listed { nodes: u32, total: u32 },
-    Refused(Refusal),
+pub struct Passed {
+    pub nodes: u32,
+    pub total: u32,
 }
 
 // Checks a file. A list too short for all errors gets the first that fit whole; a refused file changes no word.
-pub fn check_file(file: &[u8], errors: &mut [u32]) -> Passed
+pub fn check_file(file: &[u8], errors: &mut [u32]) -> Result<Passed, Refusal>
     ensures result_value { passed result ≡ answer_of file.now }
     ensures errors_after { errors.new ≡ words_after file.now errors.old }
 {
     let judged = tablefile::judge_file(file);
-    if let Verdict::Refused(why) = judged {
-        return Passed::Refused(why);
+    // no `?`: the wrong answer refused_told_as_clean is about what is returned
+    if let Err(why) = judged {
+        return Err(why);
     }
     let h = tablefile::header(file);
     if (h.nodes <= FEW_NODES) & (h.names <= FEW_NAMES) {
@@ -63,7 +62,7 @@ pub fn check_read(
     buffer: &[u8; ENOUGH_BYTES],
     len: usize,
     errors: &mut [u32; ENOUGH_WORDS],
-) -> Passed
+) -> Result<Passed, Refusal>
     ensures result_value { passed result ≡ answer_of (take len buffer.now) }
     ensures errors_after { errors.new ≡ words_after (take len buffer.now) errors.old }
     ensures buffer_len { length buffer.now ≡ enough_bytes }
@@ -73,7 +72,7 @@ pub fn check_read(
 }
 
 // The answer for a file of few nodes and name bytes that passes 70 to 75: its content is read into small arrays.
-fn check_few(file: &[u8], errors: &mut [u32]) -> Passed
+fn check_few(file: &[u8], errors: &mut [u32]) -> Result<Passed, Refusal>
     requires { (file_check file.now ≡ accepted [])
         × ((header_at file.now).nodes ≤ few_nodes) × ((header_at file.now).names ≤ few_names) }
     ensures result_value { passed result ≡ answer_of file.now }
@@ -86,7 +85,7 @@ fn check_few(file: &[u8], errors: &mut [u32]) -> Passed
 }
 
 // The same for any number of nodes and name bytes: the arrays have room for every file.
-fn check_many(file: &[u8], errors: &mut [u32]) -> Passed
+fn check_many(file: &[u8], errors: &mut [u32]) -> Result<Passed, Refusal>
     requires { file_check file.now ≡ accepted [] }
     ensures result_value { passed result ≡ answer_of file.now }
     ensures errors_after { errors.new ≡ words_after file.now errors.old }
@@ -110,7 +109,12 @@ fn fill(file: &[u8], table: &mut [u8], names: &mut [u8])
 }
 
 // The answer for a file whose content is at the front of two arrays: the job runs on it, unless the edition is bad.
-fn check_held(file: &[u8], table: &[u8], names: &[u8], errors: &mut [u32]) -> Passed
+fn check_held(
+    file: &[u8],
+    table: &[u8],
+    names: &[u8],
+    errors: &mut [u32],
+) -> Result<Passed, Refusal>
     requires { Holds file.now table.now names.now }
     ensures result_value { passed result ≡ answer_of file.now }
     ensures errors_after { errors.new ≡ words_after file.now errors.old }
@@ -120,8 +124,8 @@ fn check_held(file: &[u8], table: &[u8], names: &[u8], errors: &mut [u32]) -> Pa
     let n = front(names, h.names);
     let bytes = tablefile::dialect_bytes(file);
     let edition = dialect::edition_held(bytes, tablefile::stated_edition(file));
-    if let EditionRead::Unknown = edition {
-        return Passed::Refused(edition_refused(t, n));
+    if let None = edition {
+        return Err(edition_refused(t, n));
     }
     let found = validate::module(t, n, bytes, errors);
     told(h.nodes as u32, found)
@@ -134,21 +138,19 @@ fn edition_refused(table: &[u8], names: &[u8]) -> Refusal
 {
     let found = table::check(table, names);
     match found {
-        Checked::Sound => Refusal::Bare(numbers::BAD_DIALECT),
-        Checked::Refused(why) => why,
+        Ok(()) => Refusal::Bare(numbers::BAD_DIALECT),
+        Err(why) => why,
     }
 }
 
 // The answer for a file: its number of nodes, and the answer of the module job.
-fn told(nodes: u32, found: Listed) -> Passed
+fn told(nodes: u32, found: Result<u32, Refusal>) -> Result<Passed, Refusal>
     ensures { passed result ≡ behind nodes (listed found) }
 {
+    // no `?`: the wrong answer unsound_told_as_clean is about the second arm
     match found {
-        Listed::Total(total) => Passed::Listed {
-            nodes: nodes,
-            total: total,
-        },
-        Listed::Refused(why) => Passed::Refused(why),
+        Ok(total) => Ok(Passed { nodes, total }),
+        Err(why) => Err(why),
     }
 }
 

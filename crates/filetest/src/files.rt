@@ -1,81 +1,82 @@
 // Reads the files of data/files.bin, each after its label. files.txt describes them in words, and tools/tables.py makes
 // them.
-use crate::{lent, say, say_number};
+use crate::lent;
 use blocks::BLOCK_BYTES;
-use dialect::Stated;
 use forest::RECORD;
 use std::io::{self, Read};
-use table::{Place, Refusal};
-use tablefile::{Loaded, MOST_BLOCKS, Verdict};
-use writer::Written;
+use table::Refusal;
+use tablefile::{Loaded, MOST_BLOCKS};
 
 // The length of the largest file.
 const MOST_FILE: usize = BLOCK_BYTES * MOST_BLOCKS;
 
-// More than the largest length that a label can give its file.
-const MOST_GIVEN: usize = 65_536;
+// The largest length of a file that its head can give: the head has two bytes for it.
+const MOST_GIVEN: usize = 65_535;
 
-// Tries all files; the loop ends after more turns than there are labels.
+// The length of the longest label. A longer one ends the list.
+const MOST_LABEL: usize = 256;
+
+// No more files of the list are tried.
+const MOST_FILES: usize = 65_536;
+
+// A file of the list, after its label.
+#[derive(Clone, Copy)]
+struct Labelled<'a> {
+    label: &'a [u8],
+    bytes: &'a [u8],
+}
+
+// Tries all files.
 pub(crate) fn all(rt: &impl Print, input: &mut impl Read) -> io::Result<()> {
-    let mut left = 65536u64;
-    while 0 < left {
-        if !one(rt, input)? {
-            return Ok(());
+    let mut label = [0u8; MOST_LABEL];
+    let mut bytes = [0u8; MOST_GIVEN];
+    for _ in 0..MOST_FILES {
+        match next(input, &mut label, &mut bytes) {
+            Some(file) => one(rt, file)?,
+            None => break,
         }
-        left -= 1;
     }
     Ok(())
 }
 
-// Tries one file and prints its label. A label that begins with # is a heading. Returns false at the end.
-fn one(rt: &impl Print, input: &mut impl Read) -> io::Result<bool> {
+// The next file of the list, or none at its end.
+fn next<'a>(
+    input: &mut impl Read,
+    label: &'a mut [u8],
+    bytes: &'a mut [u8],
+) -> Option<Labelled<'a>> {
     let mut head = [0u8; 4];
-    if !filled(input, &mut head, 4) {
-        return Ok(false);
-    }
-    let label_len = fields::half(&head, 0) as usize;
-    let file_len = fields::half(&head, 2) as usize;
-    let mut label = [0u8; 256];
-    let mut file = [0u8; MOST_GIVEN];
-    if !filled(input, &mut label, label_len) {
-        return Ok(false);
-    }
-    if !filled(input, &mut file, file_len) {
-        return Ok(false);
-    }
-    say(rt, front(&label, label_len))?;
-    if label[0] != b'#' {
-        let l = tablefile::read(front(&file, file_len));
+    input.read_exact(&mut head).ok()?;
+    let label = part(input, label, fields::half(&head, 0) as usize)?;
+    let bytes = part(input, bytes, fields::half(&head, 2) as usize)?;
+    Some(Labelled { label, bytes })
+}
+
+// The next `len` bytes of the input, read to the front of a buffer; none if the buffer is shorter or there are fewer.
+fn part<'a>(input: &mut impl Read, space: &'a mut [u8], len: usize) -> Option<&'a [u8]> {
+    let bytes = space.get_mut(..len)?;
+    input.read_exact(bytes).ok()?;
+    Some(bytes)
+}
+
+// Tries one file and prints its label. A label that begins with # is a heading.
+fn one(rt: &impl Print, file: Labelled) -> io::Result<()> {
+    rt.write_all(file.label)?;
+    if !file.label.starts_with(b"#") {
+        let l = tablefile::read(file.bytes);
         say_answer(rt, l)?;
-        say_again(rt, l, front(&file, file_len))?;
-        lent::say_jobs(rt, front(&file, file_len))?;
+        say_again(rt, l, file.bytes)?;
+        lent::say_jobs(rt, file.bytes)?;
     }
-    say(rt, b"\n")?;
-    Ok(true)
-}
-
-// Reads the next `len` bytes to the front of a buffer. Returns false if there are fewer.
-fn filled(input: &mut impl Read, space: &mut [u8], len: usize) -> bool {
-    if space.len() < len {
-        return false;
-    }
-    input.read_exact(&mut space[0..len]).is_ok()
-}
-
-// The first `len` bytes, or all if there are fewer.
-fn front(s: &[u8], len: usize) -> &[u8] {
-    if len <= s.len() {
-        return &s[0..len];
-    }
-    s
+    println!(rt)
 }
 
 // Prints the verdict, the lengths of the content, and whether the bytes past it are zero.
 fn say_answer(rt: &impl Print, l: Loaded) -> io::Result<()> {
     let verdict = l.verdict;
     match verdict {
-        Verdict::Accepted => say_held(rt, l)?,
-        Verdict::Refused(r) => say_refused(rt, r)?,
+        Ok(()) => say_held(rt, l)?,
+        Err(r) => say_refused(rt, r)?,
     }
     let table = l.table;
     let names = l.names;
@@ -86,36 +87,28 @@ fn say_answer(rt: &impl Print, l: Loaded) -> io::Result<()> {
 }
 
 fn say_held(rt: &impl Print, l: Loaded) -> io::Result<()> {
-    say(rt, b"accepted, nodes ")?;
-    say_number(rt, (l.table_len / RECORD) as u64)?;
-    say(rt, b", name bytes ")?;
-    say_number(rt, l.names_len as u64)?;
-    say(rt, b", dialect bytes ")?;
-    say_number(rt, l.dialect_len as u64)?;
+    let nodes = l.table_len / RECORD;
+    let names_len = l.names_len;
+    let dialect_len = l.dialect_len;
+    print!(rt; "accepted, nodes {nodes}, name bytes {names_len}, dialect bytes {dialect_len}")?;
     let edition = l.edition;
     say_edition(rt, edition)?;
-    say(rt, b", taken ")?;
-    say_number(rt, l.taken as u64)
+    print!(rt; ", taken {}", l.taken)
 }
 
 // Prints the edition byte, if there is one.
-fn say_edition(rt: &impl Print, edition: Stated) -> io::Result<()> {
+fn say_edition(rt: &impl Print, edition: Option<u32>) -> io::Result<()> {
     match edition {
-        Stated::Number(n) => {
-            say(rt, b", edition ")?;
-            say_number(rt, n as u64)
-        }
-        Stated::Nothing => Ok(()),
+        Some(n) => print!(rt; ", edition {n}"),
+        None => Ok(()),
     }
 }
 
 fn say_refused(rt: &impl Print, r: Refusal) -> io::Result<()> {
-    say(rt, b"refused ")?;
-    say_number(rt, table::number(r) as u64)?;
+    print!(rt; "refused {}", table::number(r))?;
     let node = table::node_of(r);
-    if let Place::At(i) = node {
-        say(rt, b" at ")?;
-        say_number(rt, i as u64)?;
+    if let Some(i) = node {
+        print!(rt; " at {i}")?;
     }
     Ok(())
 }
@@ -124,8 +117,8 @@ fn say_refused(rt: &impl Print, r: Refusal) -> io::Result<()> {
 fn say_again(rt: &impl Print, l: Loaded, file: &[u8]) -> io::Result<()> {
     let verdict = l.verdict;
     match verdict {
-        Verdict::Accepted => say_written(rt, l, file),
-        Verdict::Refused(_) => Ok(()),
+        Ok(()) => say_written(rt, l, file),
+        Err(_) => Ok(()),
     }
 }
 
@@ -143,42 +136,28 @@ fn say_written(rt: &impl Print, l: Loaded, file: &[u8]) -> io::Result<()> {
         &mut again,
     );
     match written {
-        Written::Accepted(size) => say_same(rt, file, front(&again, size as usize)),
-        Written::Refused(why) => say(rt, b", NOT WRITTEN AGAIN"),
+        Ok(size) => say_same(rt, file, front(&again, size as usize)),
+        Err(why) => print!(rt; ", NOT WRITTEN AGAIN"),
     }
 }
 
 fn say_same(rt: &impl Print, file: &[u8], again: &[u8]) -> io::Result<()> {
-    if same(file, again) {
-        say(rt, b", written again")
+    if file == again {
+        print!(rt; ", written again")
     } else {
-        say(rt, b", WRITTEN OTHERWISE")
+        print!(rt; ", WRITTEN OTHERWISE")
     }
 }
 
-// Whether two files have the same bytes.
-fn same(a: &[u8], b: &[u8]) -> bool {
-    if a.len() != b.len() {
-        return false;
-    }
-    let mut i = 0;
-    while i < a.len() {
-        if fields::byte(a, i) != fields::byte(b, i) {
-            return false;
-        }
-        i += 1;
-    }
-    true
+// The first `len` bytes, or all if there are fewer.
+fn front(s: &[u8], len: usize) -> &[u8] {
+    s.get(..len).unwrap_or(s)
 }
 
 // Prints a note unless all bytes from a place on are zero.
 fn say_rest(rt: &impl Print, bytes: &[u8], from: usize) -> io::Result<()> {
-    let mut i = from;
-    while i < bytes.len() {
-        if bytes[i] != 0 {
-            return say(rt, b", NOT ZERO BEHIND THAT");
-        }
-        i += 1;
+    if bytes.iter().skip(from).any(|&byte| byte != 0) {
+        return print!(rt; ", NOT ZERO BEHIND THAT");
     }
     Ok(())
 }

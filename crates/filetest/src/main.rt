@@ -12,48 +12,35 @@ mod lent;
 use std::fs::File;
 use std::io::{self, Read};
 
-// The length of the buffer for the first file, which is much shorter.
+// The first file is tried if it is shorter, as every table file is: the largest has 59,904 bytes.
 const MOST_READ: usize = 65_536;
 
 fn main(rt: HostRuntime) -> io::Result<()> {
-    let mut file = match File::open(&rt, "parameters.table") {
+    let file = match read(&rt, "parameters.table") {
         Ok(file) => file,
         Err(why) => return fail(&rt, "parameters.table", why),
     };
-    let mut space = [0u8; MOST_READ];
-    let n = match fill(&mut file, &mut space) {
-        Ok(n) => n,
-        Err(why) => return fail(&rt, "parameters.table", why),
-    };
-    changes::all(&rt, &mut space, n)?;
+    if file.len() < MOST_READ {
+        changes::all(&rt, file)?;
+    }
     match File::open(&rt, "files.bin") {
         Ok(mut input) => files::all(&rt, &mut input),
         Err(why) => fail(&rt, "files.bin", why),
     }
 }
 
-// Reads until the buffer is full or the input ends, and returns the number of bytes.
-fn fill(input: &mut impl Read, space: &mut [u8]) -> io::Result<usize> {
-    let mut done = 0;
-    while done < space.len() {
-        let more = input.read(&mut space[done..])?;
-        if more == 0 {
-            return Ok(done);
-        }
-        done += more;
-    }
-    Ok(done)
-}
-
-fn say(rt: &impl Print, text: &[u8]) -> io::Result<()> {
-    rt.write_all(text)
-}
-
-fn say_number(rt: &impl Print, n: u64) -> io::Result<()> {
-    rt.print(n)
+// The first MOST_READ bytes of a file.
+fn read(rt: &HostRuntime, name: &str) -> io::Result<Vec<u8>> {
+    let mut bytes = Vec::new(rt.alloc());
+    File::open(rt, name)?
+        .take(MOST_READ as u64)
+        .read_to_end(&mut bytes)?;
+    Ok(bytes)
 }
 
 // Writes a line to standard error: what failed, a colon, and why in the system's words, without the number after them.
+// Each program has its own: a public function of a library must promise something (tools/gate/promises.py), and no
+// contract says what is printed.
 fn fail(rt: &(impl Eprint + AllocGlobal), what: &str, why: io::Error) -> io::Result<()> {
     let text = format!(in rt.alloc(); "{why}")?;
     match text.split_once(" (os error ") {

@@ -4,6 +4,7 @@
 -- (`Fresh`), the first is also the only one (`only_one`): a later entry of that name would find the first among those
 -- before it, which stays found with more behind it (`found_more`). Where the indices of a list rise, an earlier entry
 -- has the smaller index (`rising_before`). Assumes nothing.
+use Rattle.std.specs.Prelude.{None, Option, Some, ℕ}
 use mathlib.Core.Path.{◌≡◌, refl, sym, ap, ◌∙◌}
 use mathlib.Core.Bool.{Bool, true, false}
 use mathlib.Core.List.{List, [], ◌∷◌, ◌++◌, append_assoc, append-nil}
@@ -12,8 +13,6 @@ use native.Mathlib.Omega.{arith}
 use Rattle.fields.specs.Choice.{if'}
 use Rattle.fields.proofs.Basics.{never}
 use Rattle.forest.specs.Names.{NonePasses, FirstPassing}
-use Rattle.forest.specs.declared.Found.{Found}
-use Rattle.forest.specs.declared.Found.TheVariants.{At, Nothing}
 use Rattle.forest.proofs.Marked.{Searches}
 
 -- the first that passes a test is the first entry, or the first of the rest
@@ -32,56 +31,56 @@ module _ {A : Type 0} {test : A → Bool} {index : A → ℕ} {p : A} {l : List 
     at = f.at;
   }
 
-module _ {A : Type 0} {find : List ℕ → List A → Found} {has : List ℕ → A → Bool} (s : Searches find has) (x : List ℕ)
+module _ {A : Type 0} {find : List ℕ → List A → Option ℕ} {has : List ℕ → A → Bool} (s : Searches find has) (x : List ℕ)
   where
     -- LAW: what a search finds is the first that has the name
-    pub found_first : (l : List A) {i : ℕ} → find x l ≡ At i → FirstPassing (has x) s.node l i
+    pub found_first : (l : List A) {i : ℕ} → find x l ≡ Some i → FirstPassing (has x) s.node l i
     found_first [] e = let nothing = sym (s.none x) ∙ e in never (cc)
     found_first (p ∷ l) {i} e = go (has x p) refl (sym (s.first x p l) ∙ e) (λ rest. found_first l rest)
       where
-        go : (b : Bool) → has x p ≡ b → if' b (λ _. At (s.node p)) (λ _. find x l) ≡ At i
-            → (find x l ≡ At i → FirstPassing (has x) s.node l i) → FirstPassing (has x) s.node (p ∷ l) i
+        go : (b : Bool) → has x p ≡ b → if' b (λ _. Some (s.node p)) (λ _. find x l) ≡ Some i
+            → (find x l ≡ Some i → FirstPassing (has x) s.node l i) → FirstPassing (has x) s.node (p ∷ l) i
         go true h e rest = first_here h (cc)
         go false h e rest = first_behind h (rest e)
 
     -- LAWS: what was found is found with more behind it, and what has the name is found
-    found_more : (l m : List A) {i : ℕ} → find x l ≡ At i → find x (l ++ m) ≡ At i
+    found_more : (l m : List A) {i : ℕ} → find x l ≡ Some i → find x (l ++ m) ≡ Some i
     found_more [] m e = let nothing = sym (s.none x) ∙ e in never (cc)
     found_more (p ∷ l) m {i} e = s.first x p (l ++ m) ∙ go (has x p) (sym (s.first x p l) ∙ e)
         (λ rest. found_more l m rest)
       where
-        go : (b : Bool) → if' b (λ _. At (s.node p)) (λ _. find x l) ≡ At i
-            → (find x l ≡ At i → find x (l ++ m) ≡ At i)
-            → if' b (λ _. At (s.node p)) (λ _. find x (l ++ m)) ≡ At i
+        go : (b : Bool) → if' b (λ _. Some (s.node p)) (λ _. find x l) ≡ Some i
+            → (find x l ≡ Some i → find x (l ++ m) ≡ Some i)
+            → if' b (λ _. Some (s.node p)) (λ _. find x (l ++ m)) ≡ Some i
         go true e rest = e
         go false e rest = rest e
 
-    some_found : (l : List A) (q : A) → has x q ≡ true → (i : ℕ) × (find x (l ++ q ∷ []) ≡ At i)
+    some_found : (l : List A) (q : A) → has x q ≡ true → (i : ℕ) × (find x (l ++ q ∷ []) ≡ Some i)
     some_found [] q h = (s.node q, s.first x q [] ∙ rw h refl)
     some_found (p ∷ l) q h = go (has x p) refl (some_found l q h)
       where
-        go : (b : Bool) → has x p ≡ b → (i : ℕ) × (find x (l ++ q ∷ []) ≡ At i)
-            → (i : ℕ) × (find x (p ∷ (l ++ q ∷ [])) ≡ At i)
+        go : (b : Bool) → has x p ≡ b → (i : ℕ) × (find x (l ++ q ∷ []) ≡ Some i)
+            → (i : ℕ) × (find x (p ∷ (l ++ q ∷ [])) ≡ Some i)
         go true e rest = (s.node p, s.first x p (l ++ q ∷ []) ∙ rw e refl)
         go false e rest = (rest.0, s.first x p (l ++ q ∷ []) ∙ rw e rest.1)
 
 -- a list, after some that are read, in which no entry repeats a name of those before it
-abbrev pub Fresh : {A : Type 0} → (List A → A → Found) → List A → List A → Type 0
+abbrev pub Fresh : {A : Type 0} → (List A → A → Option ℕ) → List A → List A → Type 0
 Fresh repeats before [] = Unit {0}
-Fresh repeats before (p ∷ l) = (repeats before p ≡ Nothing) × Fresh repeats (before ++ p ∷ []) l
+Fresh repeats before (p ∷ l) = (repeats before p ≡ None) × Fresh repeats (before ++ p ∷ []) l
 
 -- LAW: in such a list the first that has a name is the only one
-module _ {A : Type 0} {find : List ℕ → List A → Found} {has : List ℕ → A → Bool} (s : Searches find has)
-    (repeats : List A → A → Found)
+module _ {A : Type 0} {find : List ℕ → List A → Option ℕ} {has : List ℕ → A → Bool} (s : Searches find has)
+    (repeats : List A → A → Option ℕ)
     (looks : (x : List ℕ) (l : List A) (p : A) → has x p ≡ true → repeats l p ≡ find x l) where
-  none_after : (x : List ℕ) (seen l : List A) {i : ℕ} → find x seen ≡ At i → Fresh repeats seen l
+  none_after : (x : List ℕ) (seen l : List A) {i : ℕ} → find x seen ≡ Some i → Fresh repeats seen l
       → NonePasses (has x) l
   none_after x seen [] e f = tt
   none_after x seen (p ∷ l) {i} e f = go (has x p) refl
       (none_after x (seen ++ p ∷ []) l (found_more s x seen (p ∷ []) e) f.1)
     where
       go : (b : Bool) → has x p ≡ b → NonePasses (has x) l → NonePasses (has x) (p ∷ l)
-      go true h rest = let hit : At i ≡ Nothing = sym e ∙ sym (looks x seen p h) ∙ f.0 in never (cc)
+      go true h rest = let hit : Some i ≡ None = sym e ∙ sym (looks x seen p h) ∙ f.0 in never (cc)
       go false h rest = (h, rest)
 
   fresh_behind : (before b m : List A) → Fresh repeats before (b ++ m) → Fresh repeats (before ++ b) m

@@ -1,4 +1,5 @@
 pub mod Stretch
+pub mod Drained
 pub mod Prefix
 pub mod Named
 pub mod Marked

@@ -4,6 +4,7 @@
 -- there is none of the noted ones (`not_noted`), and a search among them finds nothing (`Known`, kept from entry to
 -- entry by `known_named` and `known_other`). Cite `known_new`. The hash itself is a loop over eight bytes at a time
 -- (`Hashing`). Assumes nothing.
+use Rattle.std.specs.Prelude.{None, Option, Some, ℕ}
 use mathlib.Core.Path.{◌≡◌, refl, sym, ◌∙◌}
 use mathlib.Core.Bool.{Bool, true, false, ◌||◌}
 use mathlib.Core.List.{List, [], ◌∷◌, ◌++◌}
@@ -11,19 +12,17 @@ use mathlib.Core.Logic.{◌⊎◌, inl, inr, ⊎_elim}
 use Prim.Native.Nat.{ℕ, zero, suc, ◌+◌, ◌-◌, ◌/◌, ◌%◌, ◌<◌, ◌≤◌}
 use native.Mathlib.Nat.{mod-lt}
 use native.Mathlib.Omega.{arith}
-use lib.ListN.{length, get_or, take, drop, set, length-set, length-drop}
-use lib.Seq.{get_or-set_same, get_or-set_other, set_out}
+use lib.ListN.{length, get_or, take, drop, set, length-set, length-append, length-drop}
+use lib.Seq.{get_or-set_same, get_or-set_other, set_out, take_at, drop_at, drop-drop}
 use lib.Dec.{eqb}
 use borrow.Author.Tests.{eq-eqb, ne_eqb, eqb-true, eqb-false}
 use Rattle.fields.specs.Choice.{if'}
 use Rattle.fields.specs.Field.{field}
 use Rattle.fields.proofs.Basics.{clash, never}
-use Rattle.fields.proofs.Fields.{field_take, tail_part}
+use Rattle.fields.proofs.Fields.{field_take}
 use Rattle.forest.specs.Names.{same}
 use Rattle.forest.specs.Marks.{mixed, hash_from, hash_of, place_of, mark_of, several, joined, tells}
 use Rattle.forest.specs.Marks.{noted, may_stand, Known}
-use Rattle.forest.specs.declared.Found.{Found}
-use Rattle.forest.specs.declared.Found.TheVariants.{At, Nothing}
 use Rattle.forest.proofs.Named.{same_bytes_equal}
 
 -- one of two tests
@@ -31,28 +30,50 @@ or_true : (a b : Bool) → (a || b) ≡ true → (a ≡ true) ⊎ (b ≡ true)
 or_true true b e = inl refl
 or_true false b e = inr e
 
--- the number of a name's bytes: h is mixed, and left is to come
+-- the number of a name's bytes: h is mixed, and left, the end of the name, is to come
 pub record Hashing (name : List ℕ) (h : ℕ) (left : List ℕ) : Type 0 where
   pub small : h < 4294967296
   pub rest : hash_from (length left / 8) h left ≡ hash_of name
+  pub upto : length left ≤ length name
+  pub behind : drop (length name - length left) name ≡ left
+  pub whole : length left % 8 ≡ length name % 8
 
-pub hash_start : (name : List ℕ) → Hashing name 0 name
+pub hash_start : (name : List ℕ) {left : List ℕ} → left ≡ name → Hashing name 0 left
 unfolding hash_of
-hash_start name = record { small = omega arith; rest = refl }
+hash_start name is =
+    let none : length name - length name ≡ 0 = omega arith in
+    rw is record { small = omega arith; rest = refl; upto = omega arith; behind = rw none refl; whole = refl }
 
 module _ {name : List ℕ} {h : ℕ} {left : List ℕ} (s : Hashing name h left) {w v : ℕ} (v-is : v ≡ mixed h w) where
-  pub hash_on : 8 ≤ length left → w ≡ field 8 (take 8 left) 0
-      → Hashing name v (take (length left - 8) (drop 8 left))
+  pub hash_on : (group : List ℕ) {more : List ℕ} {size : ℕ} → size ≡ 8 → left ≡ group ++ more → length group ≡ size
+      → w ≡ field 8 group 0 → Hashing name v more
   unfolding hash_from
-  hash_on big w-is =
-      let tail : take (length left - 8) (drop 8 left) ≡ drop 8 left = tail_part 8 left in
+  hash_on group {more} size-is is long w-is =
+      let eight : length group ≡ 8 = omega arith in
+      let front : take 8 left ≡ group = rw is (take_at group more 8 eight) in
+      let after : drop 8 left ≡ more = rw is (drop_at group more 8 eight) in
+      let all : length left ≡ length group + length more = rw is (length-append group more) in
       let k : length left / 8 ≡ suc (length (drop 8 left) / 8) = simp length-drop (omega arith) in
-      let here : w ≡ field 8 left 0 = w-is ∙ field_take 8 left 8 0 (omega arith) in
-      record { small = rw v-is (mod-lt _ (omega arith)); rest = rw (tail, v-is, here) (rw k at s.rest) }
+      let here : w ≡ field 8 left 0 = w-is ∙ rw (← front) (field_take 8 left 8 0 (omega arith)) in
+      let next : hash_from (length (drop 8 left) / 8) v (drop 8 left) ≡ hash_of name =
+      rw (v-is, here) (rw k at s.rest) in
+      let place : length name - length more ≡ length name - length left + 8 = omega (arith, s.upto) in
+      record {
+        small = rw v-is (mod-lt _ (omega arith));
+        rest = rw after at next;
+        upto = omega (arith, s.upto);
+        behind = rw (place, ← drop-drop 8 (length name - length left) name, s.behind) after;
+        whole = omega (arith, s.whole);
+      }
 
-  pub hash_end : length left < 8 → w ≡ field 8 left 0 → v ≡ hash_of name
+  pub hash_end : {size : ℕ} → size ≡ 8 → length left < size → {rest : List ℕ}
+      → rest ≡ drop (length name - length name % 8) name → w ≡ field 8 rest 0 → v ≡ hash_of name
   unfolding hash_from
-  hash_end few w-is = let k : length left / 8 ≡ 0 = omega arith in rw (v-is, w-is) (rw k at s.rest)
+  hash_end size-is few {rest} rest-is w-is =
+      let k : length left / 8 ≡ 0 = omega arith in
+      let n : length name % 8 ≡ length left = omega (arith, s.whole) in
+      let same : rest ≡ left = rest-is ∙ rw n s.behind in
+      rw (v-is, w-is, same) (rw k at s.rest)
 
 -- the value of a place after one more mark
 module _ (old mark : ℕ) where
@@ -196,21 +217,21 @@ module _ (marks : List ℕ) (x : List ℕ) where
       other false t = refl
 
 -- a search by a test, one entry after the other, as both lists have it, of parameters and of arguments
-pub record Searches {A : Type 0} (find : List ℕ → List A → Found) (has : List ℕ → A → Bool) : Type 0 where
+pub record Searches {A : Type 0} (find : List ℕ → List A → Option ℕ) (has : List ℕ → A → Bool) : Type 0 where
   pub node : A → ℕ
-  pub none : (x : List ℕ) → find x [] ≡ Nothing
-  pub first : (x : List ℕ) (p : A) (l : List A) → find x (p ∷ l) ≡ if' (has x p) (λ _. At (node p)) (λ _. find x l)
+  pub none : (x : List ℕ) → find x [] ≡ None
+  pub first : (x : List ℕ) (p : A) (l : List A) → find x (p ∷ l) ≡ if' (has x p) (λ _. Some (node p)) (λ _. find x l)
 
 -- LAWS for both lists: what is known of the marks, at the start, after an entry with a name and after one with none
-module _ {A : Type 0} {find : List ℕ → List A → Found} {has : List ℕ → A → Bool} (s : Searches find has) where
-  first_more : (x : List ℕ) (l : List A) (p : A) → find x l ≡ Nothing → has x p ≡ false → find x (l ++ p ∷ []) ≡ Nothing
+module _ {A : Type 0} {find : List ℕ → List A → Option ℕ} {has : List ℕ → A → Bool} (s : Searches find has) where
+  first_more : (x : List ℕ) (l : List A) (p : A) → find x l ≡ None → has x p ≡ false → find x (l ++ p ∷ []) ≡ None
   first_more x [] p e h = s.first x p [] ∙ rw h (s.none x)
   first_more x (q ∷ l) p e h =
       s.first x q (l ++ p ∷ []) ∙ go (has x q) (sym (s.first x q l) ∙ e) (λ rest. first_more x l p rest h)
     where
-      go : (b : Bool) → if' b (λ _. At (s.node q)) (λ _. find x l) ≡ Nothing
-          → (find x l ≡ Nothing → find x (l ++ p ∷ []) ≡ Nothing)
-          → if' b (λ _. At (s.node q)) (λ _. find x (l ++ p ∷ [])) ≡ Nothing
+      go : (b : Bool) → if' b (λ _. Some (s.node q)) (λ _. find x l) ≡ None
+          → (find x l ≡ None → find x (l ++ p ∷ []) ≡ None)
+          → if' b (λ _. Some (s.node q)) (λ _. find x (l ++ p ∷ [])) ≡ None
       go true e rest = never (cc)
       go false e rest = rest e
 
@@ -229,6 +250,6 @@ module _ {A : Type 0} {find : List ℕ → List A → Found} {has : List ℕ →
     known_other unnamed = record { none = λ x e. first_more x l p (k.none x e) (sym (unnamed x)) }
 
 -- a name that cannot be there is new
-pub known_new : {A : Type 0} {find : List ℕ → List A → Found} {marks : List ℕ} {l : List A} → Known find marks l
-    → {x : List ℕ} {b : Bool} → b ≡ may_stand marks x → b ≡ false → Nothing ≡ find x l
+pub known_new : {A : Type 0} {find : List ℕ → List A → Option ℕ} {marks : List ℕ} {l : List A} → Known find marks l
+    → {x : List ℕ} {b : Bool} → b ≡ may_stand marks x → b ≡ false → None ≡ find x l
 known_new k b_is b-no = sym (k.none _ (sym b_is ∙ b-no))

@@ -1,22 +1,24 @@
 -- Names as code reads and compares them. A name is a part of the name bytes, clipped at their end (`name_outside`,
 -- `name_short`, `name_inside`, one for each return of `name`). `same` is equality of bytes (`same_bytes_refl`,
 -- `same_bytes_equal`; the induction is on both lists). The loops keep that the first i bytes agree, so that the rest
--- decides: one byte a turn (`Alike`) or eight (`Groups`). Eight bytes are the same exactly where their fields of width
--- 8 are, because spelling gives back bytes that were read (fields' `bytes_field`). Assumes nothing.
+-- decides: one byte a turn (`Alike`) or eight (`Groups`, and `Grouping` for what two iterators have left). Eight bytes
+-- are the same exactly where their fields of width 8 are, because spelling gives back bytes that were read (fields'
+-- `bytes_field`). Assumes nothing.
 use mathlib.Core.Path.{◌≡◌, refl, sym, ap, ◌∙◌}
 use mathlib.Core.Bool.{Bool, true, false, ◌&&◌}
+use mathlib.Core.Logic.{◌⊎◌, ⊎_elim}
 use mathlib.Core.List.{List, [], ◌∷◌, ◌++◌}
-use Prim.Native.Nat.{ℕ, zero, suc, ◌+◌, ◌-◌, ◌<◌, ◌≤◌, min}
+use Prim.Native.Nat.{ℕ, zero, suc, ◌+◌, ◌-◌, ◌%◌, ◌<◌, ◌≤◌, min}
 use native.Mathlib.Numerals.{add-one}
 use native.Mathlib.Nat.{add-zero}
 use native.Mathlib.Omega.{arith}
-use lib.ListN.{length, get_or, take, drop, length-drop, drop_of_length-le, take-append-drop}
-use lib.Seq.{take-nil, drop-cons, drop-drop}
+use lib.ListN.{length, get_or, take, drop, length-append, length-drop, drop_of_length-le, take-append-drop}
+use lib.Seq.{take-nil, take_at, drop_at, drop-cons, drop-drop}
 use lib.Dec.{eqb}
 use borrow.Author.Tests.{eq-eqb, ne_eqb, eqb-true}
 use Rattle.fields.specs.Field.{field, bytes_of}
 use Rattle.fields.proofs.Basics.{clash}
-use Rattle.fields.proofs.Fields.{field_drop, field_take, tail_part}
+use Rattle.fields.proofs.Fields.{field_drop, field_take}
 use Rattle.fields.proofs.Spelling.{Bytes, bytes_field}
 use Rattle.forest.specs.Forest.{node_of}
 use Rattle.forest.specs.Names.{name_of, same}
@@ -164,9 +166,97 @@ module _ {a b : List ℕ} {n i : ℕ} (g : Groups a b n i) where
         go true e = let l : a ≡ b = same_bytes_equal a b e in absurd (apart (v-is ∙ rw l (sym w-is)))
         go false e = refl
 
-  pub lefts_long : length (take (length a - i) (drop i a)) ≡ length (take (length b - i) (drop i b))
-  lefts_long = simp (tail_part, length-drop) (omega (arith, g.alike.long, g.alike.long'))
+  pub groups_end : {r : Bool} → r ≡ same (drop i a) (drop i b) → r ≡ same a b
+  groups_end r-is = r-is ∙ g.alike.left
 
-  pub groups_end : {r : Bool} → r ≡ same (take (length a - i) (drop i a)) (take (length b - i) (drop i b))
-      → r ≡ same a b
-  groups_end r-is = r-is ∙ rw (tail_part i a, tail_part i b) g.alike.left
+-- what two iterators over eight bytes each have left: the rest of both lists from the same place on
+pub record Grouping (a b : List ℕ) (left left' : List ℕ) : Type 0 where
+  pub at : ℕ
+  pub groups : Groups a b (length a) at
+  pub is : left ≡ drop at a
+  pub is' : left' ≡ drop at b
+  pub whole : length left % 8 ≡ length a % 8
+
+pub grouping_start : (a b : List ℕ) {left left' : List ℕ} → Bytes a → Bytes b → length a ≡ length b → left ≡ a
+    → left' ≡ b → Grouping a b left left'
+grouping_start a b small small' e is is' = record {
+  at = 0;
+  groups = groups_start a b small small' e;
+  is = is;
+  is' = is';
+  whole = rw is refl;
+}
+
+module _ {a b left left' : List ℕ} (g : Grouping a b left left') where
+  lefts_long : (length left ≡ length a - g.at) × (length left' ≡ length left)
+  lefts_long =
+      let s = g.groups.alike in
+      let one : length left ≡ length a - g.at = rw g.is (length-drop g.at a) in
+      let two : length left' ≡ length b - g.at = rw g.is' (length-drop g.at b) in
+      (one, omega (arith, s.long'))
+
+  -- eight bytes at the front of what is left of a list, and what is left behind them
+  front : (l part rest after : List ℕ) → length part ≡ 8 → rest ≡ part ++ after → rest ≡ drop g.at l
+      → (part ≡ take (g.at + 8 - g.at) (drop g.at l)) × (after ≡ drop (g.at + 8) l)
+  front l part rest after eight cut is =
+      let n : g.at + 8 - g.at ≡ 8 = omega arith in
+      let l-is : drop g.at l ≡ part ++ after = sym is ∙ cut in (
+        rw (n, l-is) (sym (take_at part after 8 eight)),
+        rw (← drop-drop 8 g.at l, l-is) (sym (drop_at part after 8 eight)),
+      )
+
+  module _ (x y more more' : List ℕ) {size size' : ℕ} (size-is : size ≡ 8) (size-is' : size' ≡ 8)
+      (first : left ≡ x ++ more) (long : length x ≡ size) (second : left' ≡ y ++ more') (long' : length y ≡ size')
+      {v w : ℕ} (v-is : v ≡ field 8 x 0) (w-is : w ≡ field 8 y 0) where
+    enough : 8 ≤ length a - g.at
+    enough =
+        let all : length left ≡ length x + length more = rw first (length-append x more) in
+        omega (arith, lefts_long.0, long, size-is)
+
+    of-a : (x ≡ take (g.at + 8 - g.at) (drop g.at a)) × (more ≡ drop (g.at + 8) a)
+    of-a = front a x left more (omega (arith, long, size-is)) first g.is
+
+    of-b : (y ≡ take (g.at + 8 - g.at) (drop g.at b)) × (more' ≡ drop (g.at + 8) b)
+    of-b = front b y left' more' (omega (arith, long', size-is')) second g.is'
+
+    v-here : v ≡ field 8 (take (g.at + 8 - g.at) (drop g.at a)) 0
+    v-here = rw of-a.0 at v-is
+
+    w-here : w ≡ field 8 (take (g.at + 8 - g.at) (drop g.at b)) 0
+    w-here = rw of-b.0 at w-is
+
+    pub grouping_on : v ≡ w → Grouping a b more more'
+    grouping_on e = record {
+      at = g.at + 8;
+      groups = groups_go g.groups enough v-here w-here e;
+      is = of-a.1;
+      is' = of-b.1;
+      whole =
+          let all : length left ≡ length x + length more = rw first (length-append x more) in
+          omega (arith, long, size-is, g.whole);
+    }
+
+    pub grouping_stop : (v ≡ w → ⊥) → false ≡ same a b
+    grouping_stop = groups_stop g.groups enough v-here w-here
+
+  -- when one of the two has no eight bytes left, what is left is the rest of each list
+  module _ {size size' : ℕ} (size-is : size ≡ 8) (size-is' : size' ≡ 8)
+      (few : (length left < size) ⊎ (length left' < size')) {rest other : List ℕ}
+      (rest-is : rest ≡ drop (length a - length a % 8) a) (other-is : other ≡ drop (length b - length b % 8) b) where
+    short : length left < 8
+    short = ⊎_elim (λ (h : length left < size). omega arith)
+        (λ (h : length left' < size'). omega (arith, lefts_long.1)) few
+
+    place : length a - length a % 8 ≡ g.at
+    place = let s = g.groups.alike in omega (arith, lefts_long.0, short, g.whole, s.upto)
+
+    place' : length b - length b % 8 ≡ g.at
+    place' = let s = g.groups.alike in omega (arith, place, s.long')
+
+    pub rests_long : length rest ≡ length other
+    rests_long =
+        let s = g.groups.alike in
+        rw (rest-is, other-is, place, place') (simp length-drop (omega (arith, s.long')))
+
+    pub grouping_end : {r : Bool} → r ≡ same rest other → r ≡ same a b
+    grouping_end r-is = groups_end g.groups (r-is ∙ rw (rest-is, other-is, place, place') refl)

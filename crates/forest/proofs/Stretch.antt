@@ -129,6 +129,14 @@ module _ {A : Type 0} (all : Forest → A) (i e : ℕ) (bs : List ℕ) where
   each_cut one join then_is big h = rw (rest_part e bs h, h)
       (ap all (forest_tree i bs big) ∙ then_is (tree_of i bs) (forest (i + span_of bs / 24) (rest_of bs)))
 
+-- LAW: the same as a walk goes on
+pub each_next : {A : Type 0} (all : Forest → A) (one : Tree → A) (join : A → A → A)
+    → ((t : Tree) (ts : Forest) → all (t then ts) ≡ join (one t) (all ts)) → (i : ℕ) (bs : List ℕ) → 24 ≤ length bs
+    → {next : ℕ} {after : List ℕ} → next ≡ i + span_of bs / 24 → after ≡ rest_of bs
+    → all (forest i bs) ≡ join (one (tree_of i bs)) (all (forest next after))
+each_next all one join then_is i bs big next-is after-is = rw (next-is, after-is)
+    (ap all (forest_tree i bs big) ∙ then_is (tree_of i bs) (forest (i + span_of bs / 24) (rest_of bs)))
+
 -- LAW: the nodes side by side in a stretch are none, or its first node and those after it
 pub roots_none : (i : ℕ) (bs : List ℕ) → length bs < 24 → roots (forest i bs) ≡ []
 unfolding roots

@@ -1,6 +1,6 @@
 -- The node table as a forest: the meaning of a stretch of 24-byte records in preorder, for any bytes. These are
 -- definitions.
-use Rattle.std.specs.Prelude.{List, [], ◌∷◌, ◌++◌, ℕ, zero, suc, ◌+◌, ◌-◌, ◌*◌, ◌/◌, min, max, length, get_or, take, drop, leb}
+use Rattle.std.specs.Prelude.{List, [], ◌∷◌, ◌++◌, ℕ, zero, suc, ◌+◌, ◌-◌, ◌*◌, ◌/◌, ◌^◌, ◌<◌, min, max, length, get_or, take, drop, leb}
 use Rattle.fields.specs.Choice.{if'}
 use Rattle.fields.specs.Field.{field}
 
@@ -77,6 +77,10 @@ forest i bs = forest_in (length bs) i bs
 -- the first tree of a stretch
 abbrev pub tree_of : ℕ → List ℕ → Tree
 tree_of i bs = node (node_of i bs) (forest (i + 1) (kids_of bs))
+
+-- the indices of a stretch whose first record has the index i fit into a usize
+abbrev pub Countable : ℕ → List ℕ → Type 0
+Countable i bs = i + length bs / record_bytes < 2 ^ 64
 
 -- the number of nodes of a forest
 unfoldable mutual

@@ -1,3 +1,4 @@
 pub mod Forest
 pub mod Marks
 pub mod Names
+pub mod Nodes

@@ -1,10 +1,8 @@
 -- Marks of names: each name has a place in an array and leaves its mark there. A name whose place does not show its
 -- mark is new. The place of a name decides how much is searched, and no answer. These are definitions.
-use Rattle.std.specs.Prelude.{◌≡◌, Bool, false, ◌||◌, List, ℕ, zero, suc, ◌+◌, ◌*◌, ◌/◌, ◌%◌, length, get_or, drop, set, eqb}
+use Rattle.std.specs.Prelude.{◌≡◌, Bool, false, ◌||◌, List, ℕ, zero, suc, ◌+◌, ◌*◌, ◌/◌, ◌%◌, length, get_or, drop, set, eqb, None, Option}
 use Rattle.fields.specs.Choice.{if'}
 use Rattle.fields.specs.Field.{field}
-use Rattle.forest.specs.declared.Found.{Found}
-use Rattle.forest.specs.declared.Found.TheVariants.{Nothing}
 
 -- a hash of 32 bits, from the hash so far and the next eight bytes
 abbrev pub mixed : ℕ → ℕ → ℕ
@@ -47,5 +45,5 @@ unfoldable pub may_stand : List ℕ → List ℕ → Bool
 may_stand marks x = eqb (length marks) 0 || tells (get_or marks (place_of (length marks) x) 0) (mark_of x)
 
 -- the marks know every name of a list: a search for a name that cannot have been noted finds nothing
-pub record Known {A : Type 0} (find : List ℕ → List A → Found) (marks : List ℕ) (l : List A) : Type 0 where
-  pub none : (x : List ℕ) → may_stand marks x ≡ false → find x l ≡ Nothing
+pub record Known {A : Type 0} (find : List ℕ → List A → Option ℕ) (marks : List ℕ) (l : List A) : Type 0 where
+  pub none : (x : List ℕ) → may_stand marks x ≡ false → find x l ≡ None

@@ -7,18 +7,12 @@
 pub mod marks;
 pub mod names;
 
-ghost use Rattle.std.specs.Prelude.{◌≡◌};
-ghost use Rattle.forest.specs.Forest.{node_of, span_of};
+ghost use Rattle.std.specs.Prelude.{◌≡◌, ◌/◌, length};
+ghost use Rattle.std.specs.Iterator.{at_most};
+ghost use Rattle.forest.specs.Forest.{record_bytes, node_of, span_of, Countable};
 
 // The size of a record in bytes.
 pub const RECORD: usize = 24;
-
-// The index of a record, or none.
-#[derive(Clone, Copy)]
-pub enum Found {
-    At(usize),
-    Nothing,
-}
 
 // The fields of the first record of a stretch (docs/FORMAT.md, "A record"). Byte 0: the kind of the node.
 pub fn kind(t: &[u8]) -> u8
@@ -99,4 +93,35 @@ pub fn span(t: &[u8]) -> usize
         return RECORD * s;
     }
     n
+}
+
+// The nodes of a stretch, side by side: each with its index and with the rest of the stretch, which begins with it.
+// A walk begins with the index of the first record and the stretch; no index is past the largest usize.
+#[derive(Clone, Copy)]
+pub struct Nodes<'a> {
+    pub at: usize,
+    pub left: &'a [u8],
+    ghost countable: { Countable at left.now },
+}
+
+impl<'a> Iterator for Nodes<'a> {
+    ghost use Rattle.forest.specs.Nodes.{NextNode};
+
+    type Item = (usize, &'a [u8]);
+
+    ghost next_gives = { NextNode };
+
+    ghost remaining = { λ s. at_most (length s.left.now / record_bytes) };
+
+    #[inline(always)]
+    fn next(&mut self) -> Option<(usize, &'a [u8])> {
+        let node = (self.at, self.left);
+        if self.left.len() < RECORD {
+            return None;
+        }
+        let e = span(self.left);
+        self.at += e / RECORD;
+        self.left = &self.left[e..];
+        Some(node)
+    }
 }

@@ -64,11 +64,11 @@ fn mix(h: usize, w: u64) -> usize
 fn hash(name: &[u8]) -> usize
     ensures { result ≡ hash_of name.now }
 {
+    let groups = name.chunks_exact(8);
+    let rest = groups.remainder();
     let mut h = 0;
-    let mut left = name;
-    while 8 <= left.len() {
-        h = mix(h, fields::long(&left[0..8], 0));
-        left = &left[8..];
+    for group in groups {
+        h = mix(h, fields::long(group, 0));
     }
-    mix(h, fields::long(left, 0))
+    mix(h, fields::long(rest, 0))
 }

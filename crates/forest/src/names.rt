@@ -19,7 +19,8 @@ pub fn name<'a>(names: &'a [u8], t: &[u8]) -> &'a [u8]
     &names[a..e]
 }
 
-// Whether two lists of bytes are the same: their lengths, then eight bytes at a time, then the rest.
+// Whether two lists of bytes are the same: their lengths, then eight bytes at a time, then the rest. It is not
+// `a == b`, since the wrong answers first_group_twice, one_byte_missed and tail_not_compared are about these steps.
 pub fn same_bytes(a: &[u8], b: &[u8]) -> bool
     ensures { result ≡ same a.now b.now }
 {
@@ -38,16 +39,16 @@ fn same_groups(a: &[u8], b: &[u8]) -> bool
     requires { length a.now ≡ length b.now }
     ensures { result ≡ same a.now b.now }
 {
-    let n = a.len();
-    let mut at = 0;
-    while 8 <= n - at {
-        let e = at + 8;
-        if fields::long(&a[at..e], 0) != fields::long(&b[at..e], 0) {
+    let groups = a.chunks_exact(8);
+    let others = b.chunks_exact(8);
+    let rest = groups.remainder();
+    let other = others.remainder();
+    for (x, y) in groups.zip(others) {
+        if fields::long(x, 0) != fields::long(y, 0) {
             return false;
         }
-        at = e;
     }
-    same_rest(&a[at..], &b[at..])
+    same_rest(rest, other)
 }
 
 // Compares two lists of equal length byte by byte.
@@ -56,12 +57,10 @@ fn same_rest(a: &[u8], b: &[u8]) -> bool
     ensures { result ≡ same a.now b.now }
 {
     let n = a.len();
-    let mut i = 0;
-    while i < n {
+    for i in 0..n {
         if a[i] != b[i] {
             return false;
         }
-        i += 1;
     }
     true
 }

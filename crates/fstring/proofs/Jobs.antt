@@ -3,6 +3,7 @@
 -- three (`passed_says`): the dialect is valid, the parts are whole and the text fits. So the text may be written
 -- without a test, what is written is the buffer at exit (`write_done`), and a refusal changes no byte
 -- (`write_refused`). There is no induction. Assumes nothing.
+use Rattle.std.specs.Prelude.{None, Option, Some, ℕ}
 use mathlib.Core.Path.{◌≡◌, refl, sym, ◌∙◌}
 use mathlib.Core.Bool.{Bool, true, false}
 use mathlib.Core.List.{List, [], ◌∷◌}
@@ -14,8 +15,6 @@ use borrow.Author.Tests.{le-leb, lt-leb, leb-true}
 use Rattle.fields.proofs.Basics.{clash}
 use Rattle.fields.specs.Choice.{if'}
 use Rattle.dialect.specs.declared.Dialect.{Dialect}
-use Rattle.dialect.specs.declared.Decoded.{Decoded}
-use Rattle.dialect.specs.declared.Decoded.TheVariants.{Valid, Invalid}
 use Rattle.dialect.specs.Bytes.{from_bytes}
 use Rattle.table.specs.Numbers.{broken_part, bad_dialect, short_buffer}
 use Rattle.table.specs.Answer.{Answer, accepted, refused, is_refused}
@@ -24,17 +23,15 @@ use Rattle.fstring.specs.Words.{is_whole}
 use Rattle.fstring.specs.Writing.{notice, text_for, room_check, parts_check, dialect_check, write_of}
 use Rattle.fstring.specs.Writing.{afterwards, text_after}
 use Rattle.fstring.specs.Steps.{leaving}
-use Rattle.fstring.specs.declared.Room.{Room}
-use Rattle.fstring.specs.declared.Room.TheVariants.{Left, Short}
 use Rattle.fstring.proofs.Sizes.{leaving_not, leaving_left}
 
 -- 5
-module _ (ws ts ds : List ℕ) (room : ℕ) {g : Decoded} (g-is : g ≡ from_bytes ds) where
-  pub job_bad : g ≡ Invalid → refused bad_dialect [] ≡ write_of ws ts ds room
+module _ (ws ts ds : List ℕ) (room : ℕ) {g : Option Dialect} (g-is : g ≡ from_bytes ds) where
+  pub job_bad : g ≡ None → refused bad_dialect [] ≡ write_of ws ts ds room
   unfolding write_of
   job_bad e = rw (sym g-is ∙ e) refl
 
-  pub job_valid : {d : Dialect} → g ≡ Valid d → {r : Answer} → r ≡ parts_check d.enable_f_strings ws ts room
+  pub job_valid : {d : Dialect} → g ≡ Some d → {r : Answer} → r ≡ parts_check d.enable_f_strings ws ts room
       → r ≡ write_of ws ts ds room
   unfolding write_of
   job_valid e r-is = r-is ∙ rw (sym g-is ∙ e) refl
@@ -45,13 +42,13 @@ module _ (enabled : Bool) (ws ts : List ℕ) (room : ℕ) {q : Bool} (q-is : q �
   unfolding parts_check
   parts_broken e = rw (sym q-is ∙ e) refl
 
-  module _ (e : q ≡ true) {b : Room} (b_is : b ≡ leaving (length (text_for ws ts)) room) where
-    pub parts_short : b ≡ Short → refused short_buffer [] ≡ parts_check enabled ws ts room
+  module _ (e : q ≡ true) {b : Option ℕ} (b_is : b ≡ leaving (length (text_for ws ts)) room) where
+    pub parts_short : b ≡ None → refused short_buffer [] ≡ parts_check enabled ws ts room
     unfolding parts_check room_check
     parts_short f =
         rw (sym q-is ∙ e, lt-leb (length (text_for ws ts)) room (leaving_not _ room (sym b_is ∙ f))) refl
 
-    module _ {m : ℕ} (f : b ≡ Left m) where
+    module _ {m : ℕ} (f : b ≡ Some m) where
       pub left_less : m ≤ room
       left_less = omega (arith, leaving_left (length (text_for ws ts)) room m (sym b_is ∙ f))
 
@@ -67,12 +64,12 @@ pub record Says (ws ts ds : List ℕ) (room : ℕ) : Type 0 where
   pub whole : is_whole ws (length ts) ≡ true
   pub fits : length (text_for ws ts) ≤ room
   pub dialect : Dialect
-  pub valid : from_bytes ds ≡ Valid dialect
+  pub valid : from_bytes ds ≡ Some dialect
   pub answer : write_of ws ts ds room
       ≡ accepted (length (text_for ws ts) ∷ notice dialect.enable_f_strings ∷ [])
 
 module _ (ws ts ds : List ℕ) (room : ℕ) where
-  pub sound_accepted : {d : Dialect} → from_bytes ds ≡ Valid d → is_whole ws (length ts) ≡ true
+  pub sound_accepted : {d : Dialect} → from_bytes ds ≡ Some d → is_whole ws (length ts) ≡ true
       → length (text_for ws ts) ≤ room
       → write_of ws ts ds room ≡ accepted (length (text_for ws ts) ∷ notice d.enable_f_strings ∷ [])
   unfolding write_of parts_check room_check
@@ -95,9 +92,10 @@ module _ (ws ts ds : List ℕ) (room : ℕ) where
   unfolding write_of
   passed_says p = go (from_bytes ds) refl p
     where
-      go : (g : Decoded) → from_bytes ds ≡ g → is_refused (dialect_check g ws ts room) ≡ false → Says ws ts ds room
-      go Invalid g-is p = clash refl p
-      go (Valid d) g-is p =
+      go : (g : Option Dialect) → from_bytes ds ≡ g → is_refused (dialect_check g ws ts room) ≡ false
+          → Says ws ts ds room
+      go None g-is p = clash refl p
+      go (Some d) g-is p =
           let says = parts_say d.enable_f_strings p in
           record {
             whole = says.0;

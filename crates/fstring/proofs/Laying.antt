@@ -3,6 +3,7 @@
 -- `same`). A byte or a part that is written moves from what is left into the buffer (`over_next`), and at the end
 -- nothing is left. A brace takes two bytes and any other byte one (`byte_twice`, `byte_once`); there is room, because
 -- the whole text fits. Cite `lay_on`, `lay_end` for a text and `parts_on`, `parts_end` for the parts. Assumes nothing.
+use Rattle.std.specs.Prelude.{Option, ℕ}
 use mathlib.Core.Path.{◌≡◌, refl, sym, ap, ◌∙◌}
 use mathlib.Core.Bool.{Bool, true, false}
 use mathlib.Core.List.{List, [], ◌∷◌, ◌++◌}
@@ -21,9 +22,8 @@ use Rattle.fstring.specs.Parts.{none, str, is_brace, escape, escaped, form_of, p
 use Rattle.fstring.specs.Words.{is_whole, part_of}
 use Rattle.fstring.specs.Writing.{text_for}
 use Rattle.fstring.specs.Steps.{leaving}
-use Rattle.fstring.specs.declared.Room.{Room}
 use Rattle.fstring.proofs.Sizes.{escaped_step, escaped_past}
-use Rattle.fstring.proofs.Counting.{first_length, first_fits, rest_of, parts_step, parts_past}
+use Rattle.fstring.proofs.Counting.{Pair, length_left, first_length, first_fits, rest_of, parts_step, parts_past}
 
 -- a byte of text: a brace is written twice, any other byte once
 module _ (c at : ℕ) (d : List ℕ) (h : at + length (escape c) ≤ length d) where
@@ -114,7 +114,7 @@ plain_is kind bytes a b = rw (ne_eqb kind 0 a, ne_eqb kind 3 b) (go (eqb kind 2)
     go false = refl
 
 -- the room of a part
-module _ (kind room : ℕ) (bytes : List ℕ) {r : Room} where
+module _ (kind room : ℕ) (bytes : List ℕ) {r : Option ℕ} where
   pub text_left : kind ≡ 0 → r ≡ leaving (length (escaped bytes)) room
       → r ≡ leaving (length (form_of (part_of kind bytes))) room
   text_left e r-is = rw (text_form kind bytes e) r-is
@@ -187,54 +187,55 @@ pub record Writing (ws ts d left more out : List ℕ) (at : ℕ) : Type 0 where
   pub fits : at + length (text_for left more) ≤ length out
   pub same : over at (text_for left more) out ≡ over 0 (text_for ws ts) d
 
-pub parts_start : (ws ts d : List ℕ) → (is_whole ws (length ts) ≡ true) × (length (text_for ws ts) ≤ length d)
-    → Writing ws ts d ws ts d 0
-parts_start ws ts d (e, h) = record { whole = e; long = refl; fits = omega arith; same = refl }
+pub parts_start : (ws ts d : List ℕ) {left : List ℕ} → left ≡ ws
+    → (is_whole ws (length ts) ≡ true) × (length (text_for ws ts) ≤ length d) → Writing ws ts d left ts d 0
+parts_start ws ts d is (e, h) = rw is record { whole = e; long = refl; fits = omega arith; same = refl }
 
 module _ {ws ts d left more out : List ℕ} {at : ℕ} (s : Writing ws ts d left more out at) where
   pub parts_long : length out ≡ length d
   parts_long = s.long
 
-  module _ (h : 2 ≤ length left) {n : ℕ} (n_is : n ≡ first_length left) where
+  module _ {part rest : List ℕ} (p : Pair left part rest) {n : ℕ} (n_here : n ≡ first_length part) where
+    n_is : n ≡ first_length left
+    n_is = length_left p n_here
+
     pub part_fits : n ≤ length more
-    part_fits = omega (arith, first_fits left (length more) s.whole h)
+    part_fits = omega (arith, n_is, first_fits left (length more) s.whole p.two)
 
     -- the code cuts the text from 0 to n
     abbrev form : List ℕ
-    form = form_of (part_of (get_or left 0 0) (take (n - 0) more))
+    form = form_of (part_of (get_or part 0 0) (take (n - 0) more))
 
     abbrev others : List ℕ
-    others = text_for (drop 2 left) (drop n more)
+    others = text_for rest (drop n more)
 
     both : text_for left more ≡ form ++ others
-    both = parts_step left more h
-        ∙ ap (λ (m : ℕ). form_of (part_of (get_or left 0 0) (take m more)) ++ text_for (drop 2 left) (drop m more))
-        (sym n_is)
-        ∙ ap (λ (m : ℕ). form_of (part_of (get_or left 0 0) (take m more)) ++ others) (sym (sub-zero n))
+    both = parts_step left more p.two ∙ rw (← n_is, p.kind, p.after, sub-zero n) refl
 
     size : length (text_for left more) ≡ length form + length others
     size = ap length both ∙ length-append form others
 
-    pub part_room : at + length (form_of (part_of (get_or left 0 0) (take (n - 0) more))) ≤ length out
+    pub part_room : at + length (form_of (part_of (get_or part 0 0) (take (n - 0) more))) ≤ length out
     part_room = omega (arith, size, s.fits)
 
-    module _ {r : ℕ} (r-is : r ≡ at + length (form_of (part_of (get_or left 0 0) (take (n - 0) more)))) {o : List ℕ}
-        (o_is : o ≡ over at (form_of (part_of (get_or left 0 0) (take (n - 0) more))) out) where
+    module _ {r : ℕ} (r-is : r ≡ at + length (form_of (part_of (get_or part 0 0) (take (n - 0) more)))) {o : List ℕ}
+        (o_is : o ≡ over at (form_of (part_of (get_or part 0 0) (take (n - 0) more))) out) where
       o_long : length o ≡ length out
       o_long = ap length o_is ∙ length_over at form out part_room
 
-      pub parts_on : Writing ws ts d (take (length left - 2) (drop 2 left)) (take (length more - n) (drop n more)) o r
+      pub parts_on : Writing ws ts d rest (take (length more - n) (drop n more)) o r
       parts_on = record {
-        whole = rw (tail_part 2 left, tail_part n more, n_is) (rest_of left more s.whole h);
+        whole = rw (← p.after, tail_part n more, n_is) (rest_of left more s.whole p.two);
         long = o_long ∙ s.long;
-        fits = rw (tail_part 2 left, tail_part n more, r-is) (omega (arith, size, s.fits, o_long));
-        same = rw (tail_part 2 left, tail_part n more, r-is, o_is)
+        fits = rw (tail_part n more, r-is) (omega (arith, size, s.fits, o_long));
+        same = rw (tail_part n more, r-is, o_is)
             (over_next at form out others
             ∙ ap (λ (t : List ℕ). over at t out) (sym both) ∙ s.same);
       }
 
-  pub parts_end : length left < 2 → out ≡ over 0 (text_for ws ts) d
-  parts_end h = sym (over_none at out) ∙ ap (λ (t : List ℕ). over at t out) (sym (parts_past left more h)) ∙ s.same
+  pub parts_end : {size : ℕ} → size ≡ 2 → length left < size → out ≡ over 0 (text_for ws ts) d
+  parts_end size-is few = sym (over_none at out)
+      ∙ ap (λ (t : List ℕ). over at t out) (sym (parts_past left more (omega arith))) ∙ s.same
 
 -- two words of the last part, which the reader writes
 module _ (kind n count : ℕ) (d : List ℕ) (h : (1 ≤ count) × (2 * count ≤ length d)) where

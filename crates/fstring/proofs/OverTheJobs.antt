@@ -5,6 +5,8 @@
 -- over the front of a buffer are followed by what was behind them (`front_of`). Theorem 1 is `write_then_read`,
 -- theorem 2 `read_then_write`, theorem 3 `stray_stands`, `stray_found`, `format_not_stray`, `not_stray_format` and
 -- `short_is_room`. Assumes nothing.
+use Rattle.std.specs.Prelude.{Ok, Result, Some}
+use Rattle.table.specs.declared.Refusal.{Refusal}
 use mathlib.Core.Path.{◌≡◌, refl, sym, ap, ◌∙◌}
 use mathlib.Core.Bool.{Bool, true, false, ◌&&◌}
 use mathlib.Core.Logic.{◌⊎◌, inl, inr}
@@ -19,7 +21,6 @@ use Rattle.fields.specs.Over.{over}
 use Rattle.fields.proofs.Over.{over_front}
 use Rattle.fields.proofs.Basics.{never}
 use Rattle.dialect.specs.declared.Dialect.{Dialect}
-use Rattle.dialect.specs.declared.Decoded.TheVariants.{Valid}
 use Rattle.dialect.specs.Bytes.{from_bytes}
 use Rattle.table.specs.Answer.{accepted, refused}
 use Rattle.table.specs.Numbers.{short_buffer, stray_brace}
@@ -30,7 +31,6 @@ use Rattle.fstring.specs.Writing.{notice, write_of, text_after, written}
 use Rattle.fstring.specs.Reading.{fit_check, parts_in, read_of, words_after, texts_after, got}
 use Rattle.fstring.specs.Claims.{StrayPlace}
 use Rattle.fstring.specs.declared.Written.{Written}
-use Rattle.fstring.specs.declared.Written.TheVariants.{Accepted}
 use Rattle.fstring.specs.declared.Reading.{Reading}
 use Rattle.fstring.specs.declared.Reading.TheVariants.{Accepted as Read, StrayAt, Short}
 use Rattle.fstring.proofs.Promises.{written_injective, got_injective}
@@ -45,12 +45,14 @@ front_of : (n : ℕ) (bs d : List ℕ) {after : List ℕ} → after ≡ over 0 b
 front_of n bs d is long = is ∙ over_front bs d ∙ ap (λ (m : ℕ). bs ++ drop m d) long
 
 -- THEOREM 1: what `write` has written, `read` gives back as the normal form
-module _ (ws ts ds d : List ℕ) (r : Written) (after : List ℕ) (r-is : written r ≡ write_of ws ts ds (length d))
+module _ (ws ts ds d : List ℕ) (r : Result Written Refusal) (after : List ℕ)
+    (r-is : written r ≡ write_of ws ts ds (length d))
     (after_is : after ≡ text_after ws ts ds d) where
   abbrev qs : List Part
   qs = normal (parts_of ws ts)
 
-  pub write_then_read : {n : ℕ} {enabled : Bool} → r ≡ Accepted n enabled → (w x : List ℕ) (s : Reading)
+  pub write_then_read : {n : ℕ} {enabled : Bool} → r ≡ Ok (record { length = n; enabled = enabled })
+      → (w x : List ℕ) (s : Reading)
       (w-after x-after : List ℕ) → got s ≡ read_of (take n after) (length w) (length x)
       → w-after ≡ words_after (take n after) w (length x) → x-after ≡ texts_after (take n after) (length w) x
       → 2 * length (normal (parts_of ws ts)) ≤ length w → length ts ≤ length x
@@ -75,18 +77,20 @@ module _ (ws ts ds d : List ℕ) (r : Written) (after : List ℕ) (r-is : writte
 -- THEOREM 2: what `read` gives, written again in any valid dialect and with room, is the same text
 module _ (t w x : List ℕ) (s : Reading) (w-after x-after : List ℕ) (s-is : got s ≡ read_of t (length w) (length x))
     (w-is : w-after ≡ words_after t w (length x)) (x-is : x-after ≡ texts_after t (length w) x) where
-  pub read_then_write : {k m : ℕ} → s ≡ Read k m → (ds d : List ℕ) (dialect : Dialect) → from_bytes ds ≡ Valid dialect
-      → length t ≤ length d → (r : Written) (after : List ℕ)
+  pub read_then_write : {k m : ℕ} → s ≡ Read k m → (ds d : List ℕ) (dialect : Dialect) → from_bytes ds ≡ Some dialect
+      → length t ≤ length d → (r : Result Written Refusal) (after : List ℕ)
       → written r ≡ write_of (take (2 * k) w-after) (take m x-after) ds (length d)
       → after ≡ text_after (take (2 * k) w-after) (take m x-after) ds d
-      → (r ≡ Accepted (length t) dialect.enable_f_strings) × (after ≡ t ++ drop (length t) d)
+      → (r ≡ Ok (record { length = length t; enabled = dialect.enable_f_strings })) × (after ≡ t ++ drop (length t) d)
   read_then_write {k} {m} good ds d dialect valid room r after r-is after_is =
       let said : read_of t (length w) (length x) ≡ accepted (k ∷ m ∷ []) = sym s-is ∙ ap got good in
       let it = again.read_then_write t w x k m said ds d dialect valid room in
-      let answer : written r ≡ written (Accepted (length t) dialect.enable_f_strings) =
+      let answer : written r ≡ written (Ok (record { length = length t; enabled = dialect.enable_f_strings })) =
       r-is ∙ rw (w-is, x-is) it.accepts in
-      let so : after ≡ over 0 t d = after_is ∙ rw (w-is, x-is) it.buffer in
-      (written_injective r (Accepted (length t) dialect.enable_f_strings) answer, front_of (length t) t d so refl)
+      let so : after ≡ over 0 t d = after_is ∙ rw (w-is, x-is) it.buffer in (
+        written_injective r (Ok (record { length = length t; enabled = dialect.enable_f_strings })) answer,
+        front_of (length t) t d so refl,
+      )
 
 -- THEOREM 3: 63 is given exactly at the first brace that starts none of the four forms
 module _ (t : List ℕ) (words bytes : ℕ) (s : Reading) (s-is : got s ≡ read_of t words bytes) where

@@ -1,6 +1,8 @@
 -- The contract of each public function leaves one answer: two answers that meet it are equal, and so are the buffers at
 -- exit, for every input. No two answers have the same meaning (`written_injective`, `got_injective`, by cases), and the
 -- buffers are given by definitions. Assumes nothing.
+use Rattle.std.specs.Prelude.{Err, Ok, Result}
+use Rattle.table.specs.declared.Refusal.{Refusal}
 use mathlib.Core.Path.{◌≡◌, refl, ap, ◌∙◌}
 use mathlib.Core.Bool.{Bool, true, false}
 use mathlib.Core.List.{List}
@@ -12,7 +14,6 @@ use Rattle.fields.proofs.Basics.{never}
 use Rattle.table.specs.Answer.{Answer, accepted, refused}
 use Rattle.table.proofs.Answers.{refusal_injective}
 use Rattle.fstring.specs.declared.Written.{Written}
-use Rattle.fstring.specs.declared.Written.TheVariants.{Accepted, Refused}
 use Rattle.fstring.specs.declared.Reading.{Reading}
 use Rattle.fstring.specs.declared.Reading.TheVariants.{Accepted as Read, StrayAt, Short}
 use Rattle.fstring.specs.Writing.{notice, write_of, text_after, written}
@@ -34,12 +35,14 @@ notice_injective false true e = absurd (omega arith)
 notice_injective false false e = refl
 
 -- no two answers mean the same
-pub written_injective : (r s : Written) → written r ≡ written s → r ≡ s
-written_injective (Accepted n a) (Accepted m b) e =
-    ap (λ (k : ℕ). Accepted k a) (ap (value 0) e) ∙ ap (Accepted m) (notice_injective a b (ap (value 1) e))
-written_injective (Accepted n a) (Refused s) e = never (cc)
-written_injective (Refused r) (Accepted m b) e = never (cc)
-written_injective (Refused r) (Refused s) e = ap Refused (refusal_injective r s e)
+pub written_injective : (r s : Result Written Refusal) → written r ≡ written s → r ≡ s
+written_injective (Ok v) (Ok w) e =
+    let lengths : v.length ≡ w.length = ap (value 0) e in
+    let notices : v.enabled ≡ w.enabled = notice_injective v.enabled w.enabled (ap (value 1) e) in
+    λ i. Ok (record { length = lengths i; enabled = notices i })
+written_injective (Ok v) (Err s) e = never (cc)
+written_injective (Err r) (Ok w) e = never (cc)
+written_injective (Err r) (Err s) e = ap Err (refusal_injective r s e)
 
 pub got_injective : (r s : Reading) → got r ≡ got s → r ≡ s
 got_injective (Read k m) (Read l n) e = ap (λ (i : ℕ). Read i m) (ap (value 0) e) ∙ ap (Read l) (ap (value 1) e)
@@ -53,7 +56,7 @@ got_injective Short (StrayAt q) e = absurd (omega (arith, ap number e))
 got_injective Short Short e = refl
 
 -- of `write`: the answer and the buffer at exit
-pub write_one : (parts texts dialect text : List ℕ) {r s : Written} {text-r text-s : List ℕ}
+pub write_one : (parts texts dialect text : List ℕ) {r s : Result Written Refusal} {text-r text-s : List ℕ}
     → written r ≡ write_of parts texts dialect (length text) → text-r ≡ text_after parts texts dialect text
     → written s ≡ write_of parts texts dialect (length text) → text-s ≡ text_after parts texts dialect text
     → (r ≡ s) × (text-r ≡ text-s)

@@ -3,6 +3,7 @@
 -- invariant `Sizing`: taking the rest of the text from the rest of the room gives the same as taking the whole text
 -- from the whole room. Each byte of text keeps it, with one or two bytes for its form. Cite `size_on`, `size_stop`,
 -- `size_end`. Assumes nothing.
+use Rattle.std.specs.Prelude.{None, Option, Some, ℕ}
 use mathlib.Core.Path.{◌≡◌, refl, sym, ap, ◌∙◌}
 use mathlib.Core.Logic.{⊎_elim}
 use mathlib.Core.Bool.{Bool, true, false}
@@ -17,19 +18,17 @@ use borrow.Author.Tests.{le-leb, lt-leb}
 use Rattle.fields.proofs.Basics.{never, le_or_lt}
 use Rattle.fstring.specs.Parts.{is_brace, escape, escaped}
 use Rattle.fstring.specs.Steps.{leaving}
-use Rattle.fstring.specs.declared.Room.{Room}
-use Rattle.fstring.specs.declared.Room.TheVariants.{Left, Short}
 
 module _ (n room : ℕ) where
-  pub leaving_fits : n ≤ room → Left (room - n) ≡ leaving n room
+  pub leaving_fits : n ≤ room → Some (room - n) ≡ leaving n room
   unfolding leaving
   leaving_fits h = rw (le-leb n room h) refl
 
-  pub leaving_short : room < n → Short ≡ leaving n room
+  pub leaving_short : room < n → None ≡ leaving n room
   unfolding leaving
   leaving_short h = rw (lt-leb n room h) refl
 
-pub leaving_none : (room : ℕ) → Left room ≡ leaving 0 room
+pub leaving_none : (room : ℕ) → Some room ≡ leaving 0 room
 unfolding leaving
 leaving_none room = rw (le-leb 0 room (omega arith), sub-zero room) refl
 
@@ -38,30 +37,30 @@ module _ (a b room : ℕ) where
   leaving_both h = ⊎_elim
       (λ (f : a + b ≤ room).
       let e : room - a - b ≡ room - (a + b) = omega arith in
-      sym (leaving_fits b (room - a) (omega arith)) ∙ ap Left e ∙ leaving_fits (a + b) room f)
+      sym (leaving_fits b (room - a) (omega arith)) ∙ ap Some e ∙ leaving_fits (a + b) room f)
       (λ (f : room < a + b). sym (leaving_short b (room - a) (omega arith)) ∙ leaving_short (a + b) room f)
       (le_or_lt (a + b) room)
 
-  pub leaving_over : room < a → Short ≡ leaving (a + b) room
+  pub leaving_over : room < a → None ≡ leaving (a + b) room
   leaving_over h = leaving_short (a + b) room (omega arith)
 
 -- what an answer says about n and the room
-unfoldable left_in : Room → ℕ
-left_in (Left m) = m
-left_in Short = 0
+unfoldable left_in : Option ℕ → ℕ
+left_in (Some m) = m
+left_in None = 0
 
-unfoldable tagged : Room → ℕ
-tagged (Left m) = 0
-tagged Short = 1
+unfoldable tagged : Option ℕ → ℕ
+tagged (Some m) = 0
+tagged None = 1
 
-pub leaving_not : (n room : ℕ) → leaving n room ≡ Short → room < n
+pub leaving_not : (n room : ℕ) → leaving n room ≡ None → room < n
 unfolding left_in tagged
 leaving_not n room e = ⊎_elim
     (λ (f : n ≤ room). never (ap tagged (leaving_fits n room f ∙ e)))
     (λ (f : room < n). f)
     (le_or_lt n room)
 
-pub leaving_left : (n room m : ℕ) → leaving n room ≡ Left m → (n ≤ room) × (m ≡ room - n)
+pub leaving_left : (n room m : ℕ) → leaving n room ≡ Some m → (n ≤ room) × (m ≡ room - n)
 unfolding left_in tagged
 leaving_left n room m e = ⊎_elim
     (λ (f : n ≤ room). (f, ap left_in (sym e ∙ sym (leaving_fits n room f))))
@@ -101,7 +100,7 @@ module _ {bytes : List ℕ} {room spare i : ℕ} (s : Sizing bytes room spare i)
         ∙ length-append (escape (get_or bytes i 0)) (escaped (drop (i + 1) bytes))
         ∙ ap (λ (m : ℕ). m + length (escaped (drop (i + 1) bytes))) (sym n_is)
 
-    pub size_stop : spare < n → Short ≡ leaving (length (escaped bytes)) room
+    pub size_stop : spare < n → None ≡ leaving (length (escaped bytes)) room
     size_stop f = leaving_over n (length (escaped (drop (i + 1) bytes))) spare f
         ∙ ap (λ (m : ℕ). leaving m spare) (sym long) ∙ s.left
 
@@ -111,6 +110,6 @@ module _ {bytes : List ℕ} {room spare i : ℕ} (s : Sizing bytes room spare i)
           ∙ ap (λ (m : ℕ). leaving m spare) (sym long) ∙ s.left;
     }
 
-  pub size_end : length bytes ≤ i → Left spare ≡ leaving (length (escaped bytes)) room
+  pub size_end : length bytes ≤ i → Some spare ≡ leaving (length (escaped bytes)) room
   size_end h = leaving_none spare
       ∙ ap (λ (t : List ℕ). leaving (length t) spare) (sym (escaped_past bytes i h)) ∙ s.left

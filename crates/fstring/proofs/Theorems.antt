@@ -2,6 +2,7 @@
 -- of the parts that it read (`words_read`, `texts_read`). Read as parts again they are these parts (`parts_again`, by
 -- induction on the parts), and they are whole (`words_whole`), so writing them never refuses with 64. Their format text
 -- is the text that was read (Fronts' `same_text`). Cite `read_then_write`. Assumes nothing.
+use Rattle.std.specs.Prelude.{Some}
 use mathlib.Core.Path.{◌≡◌, refl, sym, ap, ◌∙◌}
 use mathlib.Core.Bool.{true}
 use mathlib.Core.List.{List, [], ◌∷◌, ◌++◌}
@@ -13,7 +14,6 @@ use borrow.Author.Tests.{eq-eqb}
 use Rattle.fields.proofs.Basics.{and_both}
 use Rattle.fields.proofs.Over.{over_front}
 use Rattle.dialect.specs.declared.Dialect.{Dialect}
-use Rattle.dialect.specs.declared.Decoded.TheVariants.{Valid}
 use Rattle.dialect.specs.Bytes.{from_bytes}
 use Rattle.table.specs.Answer.{Answer, accepted, refused}
 use Rattle.fields.specs.Over.{over}
@@ -106,7 +106,7 @@ module _ (t w x : List ℕ) (k m : ℕ) (e : read_of t (length w) (length x) ≡
     pub buffer : text_after (take (2 * k) (words_after t w (length x))) (take m (texts_after t (length w) x)) ds d
         ≡ over 0 t d
 
-  pub read_then_write : (ds d : List ℕ) (dialect : Dialect) → from_bytes ds ≡ Valid dialect → length t ≤ length d
+  pub read_then_write : (ds d : List ℕ) (dialect : Dialect) → from_bytes ds ≡ Some dialect → length t ≤ length d
       → WrittenBack ds d dialect
   unfolding text_after
   read_then_write ds d dialect valid room =

@@ -1,17 +1,15 @@
 -- The answers of the private functions: a room that is counted down, and what one form does to the numbers and buffers
 -- of the reader. These are definitions; no public contract cites them.
-use Rattle.std.specs.Prelude.{◌≡◌, Bool, true, false, List, [], ◌∷◌, ℕ, ◌+◌, ◌*◌, ◌-◌, ◌≤◌, length, eqb, leb}
+use Rattle.std.specs.Prelude.{◌≡◌, Bool, true, false, List, [], ◌∷◌, ℕ, ◌+◌, ◌*◌, ◌-◌, ◌≤◌, length, eqb, leb, None, Option, Some}
 use Rattle.fields.specs.Choice.{if'}
 use Rattle.fstring.specs.Parts.{texts_of, is_short}
 use Rattle.fstring.specs.Reading.{legible, parts_in}
 use Rattle.fstring.specs.declared.Form.{Form}
 use Rattle.fstring.specs.declared.Form.TheVariants.{Plain, Doubled, Empty, Converted, Stray}
-use Rattle.fstring.specs.declared.Room.{Room}
-use Rattle.fstring.specs.declared.Room.TheVariants.{Left, Short}
 
 -- the room left after a number of bytes
-unfoldable pub leaving : ℕ → ℕ → Room
-leaving n room = if' (leb n room) (λ _. Left (room - n)) (λ _. Short)
+unfoldable pub leaving : ℕ → ℕ → Option ℕ
+leaving n room = if' (leb n room) (λ _. Some (room - n)) (λ _. None)
 
 -- whether a form is a byte of text, the byte, the first word of its part, its width
 abbrev pub is_literal : Form → Bool

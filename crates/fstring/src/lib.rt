@@ -16,7 +16,6 @@ ghost use Rattle.fstring.specs.Reading.{is_stray, parts_in};
 ghost use Rattle.fstring.specs.Steps.{leaving, width_of, is_literal, kept, byte_of, form_kind, begun, run_on, ones};
 ghost use Rattle.fstring.specs.Steps.{Readable};
 
-use dialect::Decoded;
 use table::{Refusal, numbers};
 
 // The bytes that forms are made of.
@@ -38,9 +37,9 @@ const MOST_LENGTH: usize = 4294967295;
 
 // The answer of write: the length of the text and whether the dialect has f-strings, or the refusal.
 #[derive(Clone, Copy)]
-pub enum Written {
-    Accepted { length: usize, enabled: bool },
-    Refused(Refusal),
+pub struct Written {
+    pub length: usize,
+    pub enabled: bool,
 }
 
 // The answer of read: the numbers of parts and of text bytes, or the refusal: 63 with its position, or 7.
@@ -61,16 +60,14 @@ enum Form {
     Stray,
 }
 
-// The bytes left of a room, or that it is too short.
-#[derive(Clone, Copy)]
-enum Room {
-    Left(usize),
-    Short,
-}
-
 // Writes the format text of parts into a buffer: 5, then 64, then 7 for a buffer that is shorter than the text. A
 // refusal changes no byte, and bytes past the text are unchanged.
-pub fn write(parts: &[u32], texts: &[u8], dialect: &[u8], text: &mut [u8]) -> Written
+pub fn write(
+    parts: &[u32],
+    texts: &[u8],
+    dialect: &[u8],
+    text: &mut [u8],
+) -> Result<Written, Refusal>
     ensures result_value { written result
         ≡ write_of parts.now texts.now dialect.now (length text.old) }
     ensures text_after { text.new
@@ -85,40 +82,40 @@ pub fn write(parts: &[u32], texts: &[u8], dialect: &[u8], text: &mut [u8]) -> Wr
 }
 
 // The answer of write for a buffer of room bytes: 5, 64, 7, or acceptance.
-fn judge(parts: &[u32], texts: &[u8], dialect: &[u8], room: usize) -> Written
+fn judge(parts: &[u32], texts: &[u8], dialect: &[u8], room: usize) -> Result<Written, Refusal>
     ensures { written result ≡ write_of parts.now texts.now dialect.now room }
 {
     let decoded = dialect::from_bytes(dialect);
     match decoded {
-        Decoded::Valid(d) => judge_parts(parts, texts, d.enable_f_strings, room),
-        Decoded::Invalid => Written::Refused(Refusal::Bare(numbers::BAD_DIALECT)),
+        Some(d) => judge_parts(parts, texts, d.enable_f_strings, room),
+        None => Err(Refusal::Bare(numbers::BAD_DIALECT)),
     }
 }
 
 // 64, then 7, or acceptance.
-fn judge_parts(parts: &[u32], texts: &[u8], enabled: bool, room: usize) -> Written
+fn judge_parts(parts: &[u32], texts: &[u8], enabled: bool, room: usize) -> Result<Written, Refusal>
     ensures { written result ≡ parts_check enabled parts.now texts.now room }
 {
     if !is_whole(parts, texts.len()) {
-        return Written::Refused(Refusal::Bare(numbers::BROKEN_PART));
+        return Err(Refusal::Bare(numbers::BROKEN_PART));
     }
     let behind = room_behind(parts, texts, room);
     match behind {
-        Room::Left(left) => Written::Accepted {
+        Some(left) => Ok(Written {
             length: room - left,
-            enabled: enabled,
-        },
-        Room::Short => Written::Refused(Refusal::Bare(numbers::SHORT_BUFFER)),
+            enabled,
+        }),
+        None => Err(Refusal::Bare(numbers::SHORT_BUFFER)),
     }
 }
 
 // Whether an answer is a refusal.
-fn is_refused(answer: Written) -> bool
+fn is_refused(answer: Result<Written, Refusal>) -> bool
     ensures { result ≡ is_refused (written answer) }
 {
     match answer {
-        Written::Accepted { length, enabled } => false,
-        Written::Refused(_) => true,
+        Ok(_) => false,
+        Err(_) => true,
     }
 }
 
@@ -126,11 +123,10 @@ fn is_refused(answer: Written) -> bool
 fn is_whole(parts: &[u32], bytes: usize) -> bool
     ensures { result ≡ is_whole parts.now bytes }
 {
-    let mut left = parts;
     let mut more = bytes;
-    while 2 <= left.len() {
-        let sound = sound_part(left[0], left[1]);
-        let n = text_length(left[0], left[1]);
+    for part in parts.chunks_exact(2) {
+        let sound = sound_part(part[0], part[1]);
+        let n = text_length(part[0], part[1]);
         if !sound {
             return false;
         }
@@ -138,9 +134,8 @@ fn is_whole(parts: &[u32], bytes: usize) -> bool
             return false;
         }
         more -= n;
-        left = &left[2..];
     }
-    (left.len() == 0) & (more == 0)
+    (parts.len() % 2 == 0) & (more == 0)
 }
 
 // Whether two words are a part.
@@ -171,28 +166,22 @@ fn is_brace(c: u8) -> bool
 }
 
 // The room left after the format text of parts.
-fn room_behind(parts: &[u32], texts: &[u8], room: usize) -> Room
+fn room_behind(parts: &[u32], texts: &[u8], room: usize) -> Option<usize>
     requires { is_whole parts.now (length texts.now) ≡ true }
     ensures { result ≡ leaving (length (text_for parts.now texts.now)) room }
 {
-    let mut left = parts;
     let mut more = texts;
     let mut spare = room;
-    while 2 <= left.len() {
-        let n = text_length(left[0], left[1]);
-        let behind = room_behind_part(left[0], &more[0..n], spare);
-        match behind {
-            Room::Left(rest) => spare = rest,
-            Room::Short => return Room::Short,
-        }
+    for part in parts.chunks_exact(2) {
+        let n = text_length(part[0], part[1]);
+        spare = room_behind_part(part[0], &more[0..n], spare)?;
         more = &more[n..];
-        left = &left[2..];
     }
-    Room::Left(spare)
+    Some(spare)
 }
 
 // The room left after a part.
-fn room_behind_part(kind: u32, bytes: &[u8], room: usize) -> Room
+fn room_behind_part(kind: u32, bytes: &[u8], room: usize) -> Option<usize>
     ensures { result ≡ leaving (length (form_of (part_of kind bytes.now))) room }
 {
     if kind == TEXT {
@@ -205,30 +194,28 @@ fn room_behind_part(kind: u32, bytes: &[u8], room: usize) -> Room
 }
 
 // The room left after a number of bytes.
-fn room_less(room: usize, n: usize) -> Room
+fn room_less(room: usize, n: usize) -> Option<usize>
     ensures { result ≡ leaving n room }
 {
     if room < n {
-        return Room::Short;
+        return None;
     }
-    Room::Left(room - n)
+    Some(room - n)
 }
 
 // The room left after a text with its braces doubled.
-fn room_behind_text(bytes: &[u8], room: usize) -> Room
+fn room_behind_text(bytes: &[u8], room: usize) -> Option<usize>
     ensures { result ≡ leaving (length (escaped bytes.now)) room }
 {
     let mut spare = room;
-    let mut i = 0;
-    while i < bytes.len() {
-        let n = byte_size(bytes[i]);
+    for c in bytes {
+        let n = byte_size(*c);
         if spare < n {
-            return Room::Short;
+            return None;
         }
         spare -= n;
-        i += 1;
     }
-    Room::Left(spare)
+    Some(spare)
 }
 
 // The number of bytes that a byte of text takes.
@@ -247,14 +234,12 @@ fn write_parts(parts: &[u32], texts: &[u8], out: &mut [u8])
         × (length (text_for parts.now texts.now) ≤ length out.old) }
     ensures { out.new ≡ over 0 (text_for parts.now texts.now) out.old }
 {
-    let mut left = parts;
     let mut more = texts;
     let mut at = 0;
-    while 2 <= left.len() {
-        let n = text_length(left[0], left[1]);
-        at = write_part(left[0], &more[0..n], at, out);
+    for part in parts.chunks_exact(2) {
+        let n = text_length(part[0], part[1]);
+        at = write_part(part[0], &more[0..n], at, out);
         more = &more[n..];
-        left = &left[2..];
     }
 }
 
@@ -286,10 +271,8 @@ fn write_text(bytes: &[u8], at: usize, out: &mut [u8]) -> usize
     ensures out_after { out.new ≡ over at (escaped bytes.now) out.old }
 {
     let mut p = at;
-    let mut i = 0;
-    while i < bytes.len() {
-        p = write_byte(bytes[i], p, out);
-        i += 1;
+    for c in bytes {
+        p = write_byte(*c, p, out);
     }
     p
 }
@@ -346,6 +329,7 @@ fn judge_text(text: &[u8], words: usize, room: usize) -> Reading
     let mut bytes = 0;
     let mut run = 0;
     let mut long = false;
+    // Each form says its own width, so that a `for` over pieces of one width does not go over them.
     while 0 < left.len() {
         let form = first_form(left);
         if is_stray(form) {
@@ -377,6 +361,7 @@ fn read_parts(text: &[u8], parts: &mut [u32], texts: &mut [u8])
     let mut count = 0;
     let mut bytes = 0;
     let mut run = 0;
+    // Each form says its own width, as in `judge_text`.
     while 0 < left.len() {
         let form = first_form(left);
         let is_text = is_literal(form);

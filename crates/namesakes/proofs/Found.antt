@@ -2,6 +2,7 @@
 -- (`ordinary_missed`), and what is found is one (`ordinary_found`). An argument with a namesake that it does not reach
 -- gives a report (`reported`); if no argument is such, there is none (`none_if_lem`). The induction is on the
 -- arguments. Assumes nothing.
+use Rattle.std.specs.Prelude.{None, Option, Some, ℕ}
 use mathlib.Core.Path.{◌≡◌, refl, sym, ap, ◌∙◌}
 use mathlib.Core.Bool.{Bool, true, false, ◌&&◌, ◌||◌}
 use mathlib.Core.Logic.{◌⊎◌, inl, inr}
@@ -15,8 +16,6 @@ use Rattle.fields.proofs.Basics.{never}
 use Rattle.fields.specs.Choice.{if'}
 use Rattle.forest.specs.Names.{same}
 use Rattle.forest.proofs.Named.{same_bytes_refl, same_bytes_equal}
-use Rattle.table.specs.declared.Place.{Place}
-use Rattle.table.specs.declared.Place.TheVariants.{At, Nothing}
 use Rattle.deflist.specs.Written.{Name}
 use Rattle.deflist.specs.Unpack.{mode_pos_only, mode_pos_or_name, mode_name_only}
 use Rattle.arguments.specs.Written.{node_in}
@@ -64,15 +63,15 @@ sake_behind p fs x k i r =
       sake = record { param = s.param; there = s.there; is = s.is; name = s.name };
     }
 
-pub ordinary_found : (fs : List FlatParam) (x : Name) (k i : ℕ) → ordinary_from k x fs ≡ At i → SakeFrom fs x k i
+pub ordinary_found : (fs : List FlatParam) (x : Name) (k i : ℕ) → ordinary_from k x fs ≡ Some i → SakeFrom fs x k i
 unfolding ordinary_from
 ordinary_found [] x k i e = never (cc)
 ordinary_found (p ∷ fs) x k i e =
     go (ordinary p.mode) (same p.name x) refl refl e (ordinary_found fs x (k + 1) i)
   where
     go : (a b : Bool) → ordinary p.mode ≡ a → same p.name x ≡ b
-        → if' (a && b) (λ _. At k) (λ _. ordinary_from (k + 1) x fs) ≡ At i
-        → (ordinary_from (k + 1) x fs ≡ At i → SakeFrom fs x (k + 1) i) → SakeFrom (p ∷ fs) x k i
+        → if' (a && b) (λ _. Some k) (λ _. ordinary_from (k + 1) x fs) ≡ Some i
+        → (ordinary_from (k + 1) x fs ≡ Some i → SakeFrom fs x (k + 1) i) → SakeFrom (p ∷ fs) x k i
     go true true f g e rest =
         let here : i ≡ k = cc in
         let name : p.name ≡ x = same_bytes_equal p.name x g in
@@ -84,7 +83,7 @@ ordinary_found (p ∷ fs) x k i e =
     go true false f g e rest = sake_behind p fs x k i (rest e)
     go false b f g e rest = sake_behind p fs x k i (rest e)
 
-pub ordinary_missed : (fs : List FlatParam) (x : Name) (k : ℕ) → ordinary_from k x fs ≡ Nothing → (i : ℕ)
+pub ordinary_missed : (fs : List FlatParam) (x : Name) (k : ℕ) → ordinary_from k x fs ≡ None → (i : ℕ)
     (p : FlatParam) → IsAt fs i p → Ordinary p → p.name ≡ x → ⊥
 unfolding ordinary_from
 ordinary_missed [] x k e i p at c n = elim at [ ]
@@ -94,13 +93,13 @@ ordinary_missed (q ∷ fs) x k e zero p at c n =
       ap (λ (y : FlatParam). y.name) at ∙ n,
       same_bytes_refl x,
     ) refl in
-    let hit : At k ≡ Nothing = rw test at e in
+    let hit : Some k ≡ None = rw test at e in
     never (cc)
 ordinary_missed (q ∷ fs) x k e (suc i) p at c n = go (ordinary q.mode && same q.name x) e
     (λ f. ordinary_missed fs x (k + 1) f i p at c n)
   where
-    go : (b : Bool) → if' b (λ _. At k) (λ _. ordinary_from (k + 1) x fs) ≡ Nothing
-        → (ordinary_from (k + 1) x fs ≡ Nothing → ⊥) → ⊥
+    go : (b : Bool) → if' b (λ _. Some k) (λ _. ordinary_from (k + 1) x fs) ≡ None
+        → (ordinary_from (k + 1) x fs ≡ None → ⊥) → ⊥
     go true e rest = never (cc)
     go false e rest = rest e
 
@@ -121,25 +120,25 @@ module _ (fs : List FlatParam) (ws : List ℕ) where
     taken = get_or ws q 0;
   }
 
-  one_row : (at p q : ℕ) → (p ≡ q → ⊥) → report_of ws at p (At q)
+  one_row : (at p q : ℕ) → (p ≡ q → ⊥) → report_of ws at p (Some q)
       ≡ record { argument = at; reached = p; namesake = q; taken = get_or ws q 0 } ∷ []
   unfolding report_of
   one_row at p q n = rw (ne_eqb p q n) refl
 
-  no_row : (at p : ℕ) (q : Place) → ((i : ℕ) → q ≡ At i → p ≡ i) → report_of ws at p q ≡ []
+  no_row : (at p : ℕ) (q : Option ℕ) → ((i : ℕ) → q ≡ Some i → p ≡ i) → report_of ws at p q ≡ []
   unfolding report_of
-  no_row at p Nothing h = refl
-  no_row at p (At i) h = rw (eq-eqb p i (h i refl)) refl
+  no_row at p None h = refl
+  no_row at p (Some i) h = rw (eq-eqb p i (h i refl)) refl
 
   -- LAW: an argument that does not reach its namesake is reported
   pub reported : (place : ℕ) (qs : List Labelled) (k : ℕ) (a : Labelled) (q : ℕ) → IsAt qs k a
-      → namesake_of fs a.name ≡ At q → (get_or ws (place + k) 0 ≡ q → ⊥)
+      → namesake_of fs a.name ≡ Some q → (get_or ws (place + k) 0 ≡ q → ⊥)
       → (m : ℕ) × IsAt (reports_from fs ws place qs) m (row_of (place + k) a q)
   unfolding reports_from
   reported place [] k a q at n far = elim at [ ]
   reported place (b ∷ qs) zero a q at n far =
       let here : place + 0 ≡ place = omega arith in
-      let row : report_of ws (node_in a.argument).at (get_or ws place 0) (At q) ≡ row_of place a q ∷ [] =
+      let row : report_of ws (node_in a.argument).at (get_or ws place 0) (Some q) ≡ row_of place a q ∷ [] =
       one_row (node_in a.argument).at (get_or ws place 0) q (rw here at far) in
       (0, rw (here, at, n, row) refl)
   reported place (b ∷ qs) (suc k) a q at n far =
@@ -152,7 +151,7 @@ module _ (fs : List FlatParam) (ws : List ℕ) where
 
   -- LAW: if each argument reaches its namesake, none is reported
   pub none_if_lem : (place : ℕ) (qs : List Labelled)
-      → ((k : ℕ) (a : Labelled) (q : ℕ) → IsAt qs k a → namesake_of fs a.name ≡ At q → get_or ws (place + k) 0 ≡ q)
+      → ((k : ℕ) (a : Labelled) (q : ℕ) → IsAt qs k a → namesake_of fs a.name ≡ Some q → get_or ws (place + k) 0 ≡ q)
       → reports_from fs ws place qs ≡ []
   unfolding reports_from
   none_if_lem place [] h = refl

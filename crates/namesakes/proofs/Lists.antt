@@ -2,19 +2,19 @@
 -- stretch record by record: `labelled_on` and `labelled_end` say what an argument adds, `ordinary_one` what a parameter
 -- does. The search needs no state of the list, because a Normal is ordinary in each state. `labelled_behind` and
 -- `same-arguments` lead back to the arguments that `bind` reads. Assumes nothing.
+use Rattle.std.specs.Prelude.{Some}
 use mathlib.Core.Path.{◌≡◌, refl, ap}
 use mathlib.Core.Bool.{true, false, ◌&&◌}
 use mathlib.Core.List.{List, [], ◌∷◌, ◌++◌, map}
-use Prim.Native.Nat.{ℕ, ◌+◌, ◌-◌, ◌/◌, ◌<◌, ◌≤◌}
+use Prim.Native.Nat.{ℕ, ◌+◌, ◌/◌, ◌<◌, ◌≤◌}
 use native.Mathlib.Omega.{arith}
-use lib.ListN.{length, take, drop}
+use lib.ListN.{length}
 use borrow.Author.Tests.{le-leb, lt-leb}
 use Rattle.fields.specs.Choice.{if'}
 use Rattle.fields.proofs.Basics.{never}
 use Rattle.forest.specs.Forest.{node_of, span_of, kids_of, rest_of, Tree, node, Forest, none, ◌then◌, forest, tree_of}
 use Rattle.forest.specs.Names.{name_of, same}
-use Rattle.forest.proofs.Stretch.{forest_none, forest_tree, rest_part, record_or_none, length_rest}
-use Rattle.table.specs.declared.Place.TheVariants.{At}
+use Rattle.forest.proofs.Stretch.{forest_none, forest_tree, record_or_none, length_rest}
 use Rattle.deflist.specs.Written.{Name, Param, normal, no_args, slash, args, kwargs, kind_in, kind_at, param, param_of}
 use Rattle.deflist.specs.Unpack.{mode_of}
 use Rattle.deflist.specs.Reading.{kind_here}
@@ -38,10 +38,10 @@ module _ (ns : List ℕ) (i : ℕ) (t : List ℕ) where
   abbrev pub here : Labelled
   here = record { argument = argument_of ns (node_of i t); name = label_of ns (forest (i + 1) (kids_of t)) }
 
-  pub labelled_on : {e : ℕ} → 24 ≤ length t → e ≡ span_of t → labelled_in ns (forest i t) ≡ here
-      ∷ labelled_in ns (forest (i + e / 24) (take (length t - e) (drop e t)))
+  pub labelled_on : {next : ℕ} {after : List ℕ} → 24 ≤ length t → next ≡ i + span_of t / 24 → after ≡ rest_of t
+      → labelled_in ns (forest i t) ≡ here ∷ labelled_in ns (forest next after)
   unfolding labelled_in
-  labelled_on {e} big e-is = rw (forest_tree i t big, rest_part e t e-is, e-is) refl
+  labelled_on big next-is after-is = rw (forest_tree i t big, next-is, after-is) refl
 
   -- the arguments of a call follow its first child
   pub labelled_behind : labelled_in ns (forest (i + 1 + span_of (kids_of t) / 24) (behind_callee t))
@@ -87,7 +87,7 @@ module _ (ns : List ℕ) (i : ℕ) (t : List ℕ) where
 -- LAW: one parameter more, for the search by name
 pub ordinary_one : (f : ℕ) (x : Name) (s : State) (p : Param) (fs : List FlatParam)
     → ordinary_from f x (map (flat_param p) (mode_of s (kind_in p)) ++ fs)
-    ≡ if' (is_normal (kind_in p) && same (name_in p) x) (λ _. At f)
+    ≡ if' (is_normal (kind_in p) && same (name_in p) x) (λ _. Some f)
     (λ _. ordinary_from (f + flat_count (kind_in p)) x fs)
 unfolding ordinary_from
 ordinary_one f x BeforeSlash (normal r n d) fs = refl

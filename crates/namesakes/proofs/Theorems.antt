@@ -7,6 +7,7 @@
 -- "Reaches" is what the binding job says: the words of its list at exit (`argument_word` of the crate `reached`). The
 -- job's reports are those of these words (`count_is`, `list_is`); the rest is the law of lists (Found) and that names
 -- of parameters are distinct (reached's `one_name`). Assumes nothing.
+use Rattle.std.specs.Prelude.{None, Option, Some, ℕ}
 use mathlib.Core.Path.{◌≡◌, refl, sym, ap, ◌∙◌}
 use mathlib.Core.Bool.{Bool, true, false}
 use mathlib.Core.Logic.{◌↔◌}
@@ -21,8 +22,6 @@ use Rattle.fields.proofs.Over.{over_front}
 use Rattle.forest.specs.Forest.{node_of as record_of}
 use Rattle.table.specs.Answer.{Answer, accepted, refused, and_then}
 use Rattle.table.specs.Check.{stretch_of}
-use Rattle.table.specs.declared.Place.{Place}
-use Rattle.table.specs.declared.Place.TheVariants.{At, Nothing}
 use Rattle.table.proofs.Answers.{never_passed}
 use Rattle.deflist.specs.Written.{Name}
 use Rattle.deflist.proofs.Limited.{limited_short}
@@ -113,29 +112,29 @@ module _ (t names : List ℕ) (call def : ℕ) (words : List ℕ) {vs : List ℕ
       (omega (arith, within (arguments_at t names call) k a.argument (argument_at t names call k a at)))
 
   -- the parameter of a name
-  sake_at : (x : Name) (q : ℕ) → namesake_of fs (label x) ≡ At q → Sake fs x q
+  sake_at : (x : Name) (q : ℕ) → namesake_of fs (label x) ≡ Some q → Sake fs x q
   unfolding namesake_of
   sake_at x q e =
       let f = ordinary_found fs x 0 q e in
       let same : f.place ≡ q = omega (arith, f.is) in
       rw same at f.sake
 
-  no_sake : (q : ℕ) → namesake_of fs nameless ≡ At q → ⊥
+  no_sake : (q : ℕ) → namesake_of fs nameless ≡ Some q → ⊥
   unfolding namesake_of
   no_sake q e = never (cc)
 
-  at_sake : (q : ℕ) (p : FlatParam) → IsAt fs q p → Ordinary p → namesake_of fs (label p.name) ≡ At q
+  at_sake : (q : ℕ) (p : FlatParam) → IsAt fs q p → Ordinary p → namesake_of fs (label p.name) ≡ Some q
   unfolding namesake_of
   at_sake q p there o = go (ordinary_from 0 p.name fs) refl
     where
-      go : (r : Place) → ordinary_from 0 p.name fs ≡ r → r ≡ At q
-      go (At i) e =
+      go : (r : Option ℕ) → ordinary_from 0 p.name fs ≡ r → r ≡ Some q
+      go (Some i) e =
           let f = ordinary_found fs p.name 0 i e in
           let s : Sake fs p.name f.place = f.sake in
           let same : f.place ≡ q = one_name (list_of t names def) ps.counts ps.outcome f.place q s.param p
           s.there there s.name in
-          ap At (omega (arith, f.is))
-      go Nothing e = absurd (ordinary_missed fs p.name 0 e q p there o refl)
+          ap Some (omega (arith, f.is))
+      go None e = absurd (ordinary_missed fs p.name 0 e q p there o refl)
 
   -- an argument that has the name of an ordinary parameter and reaches another is in the list
   pub is_reported : (k : ℕ) (a : Labelled) (q : ℕ) (p : FlatParam) → IsAt qs k a → a.name ≡ label p.name
@@ -163,7 +162,7 @@ module _ (t names : List ℕ) (call def : ℕ) (words : List ℕ) {vs : List ℕ
   unfolding reports_at
   nothing all = none_if_lem fs ws (length fs) qs (λ k a q at e. sym (own_is k a at) ∙ go k a q at a.name refl e)
     where
-      go : (k : ℕ) (a : Labelled) (q : ℕ) → IsAt qs k a → (l : Label) → a.name ≡ l → namesake_of fs l ≡ At q
+      go : (k : ℕ) (a : Labelled) (q : ℕ) → IsAt qs k a → (l : Label) → a.name ≡ l → namesake_of fs l ≡ Some q
           → own k ≡ q
       go k a q at nameless name e = absurd (no_sake q e)
       go k a q at (label x) name e =

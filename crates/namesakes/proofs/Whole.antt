@@ -3,6 +3,7 @@
 -- (`enters`). Their binding is then the same (`words_same`). The words that `bind` leaves in zeros are those of the
 -- binding, and 0 behind them, so that both say the same of every place (`padded`), and the reports are the same
 -- (`reads_same`). Assumes nothing.
+use Rattle.std.specs.Prelude.{Err, None, Ok, Option, Result, Some, ℕ}
 use mathlib.Core.Path.{◌≡◌, refl, sym, ap, ◌∙◌}
 use mathlib.Core.Bool.{Bool, true, false}
 use mathlib.Core.List.{List, [], ◌∷◌, ◌++◌}
@@ -19,10 +20,6 @@ use Rattle.table.specs.Numbers.{wrong_node, short_buffer}
 use Rattle.table.specs.Answer.{Answer, accepted, refused, and_then, refusal, checked}
 use Rattle.table.specs.Check.{most_bytes, Within, stretch_of, entry_check}
 use Rattle.table.specs.declared.Refusal.{Refusal}
-use Rattle.table.specs.declared.Checked.{Checked}
-use Rattle.table.specs.declared.Checked.TheVariants.{Sound, Refused}
-use Rattle.table.specs.declared.Place.{Place}
-use Rattle.table.specs.declared.Place.TheVariants.{At, Nothing}
 use Rattle.table.specs.declared.Wanted.TheVariants.{Call}
 use Rattle.table.proofs.Answers.{never_accepted, never_passed}
 use Rattle.table.proofs.Entering.{entry_sound}
@@ -34,7 +31,6 @@ use Rattle.bind.specs.Job as binding
 use Rattle.bind.specs.Job.{is_def, arguments_at, words_of, answered_at, bind_of, bound}
 use Rattle.bind.specs.Reading.{Behind, behind_callee}
 use Rattle.bind.specs.declared.Bound.{Bound}
-use Rattle.bind.specs.declared.Bound.TheVariants.{Accepted, Refused as Unbound}
 use Rattle.bind.proofs.Lists.{flats_short}
 use Rattle.bind.proofs.Steps.{behind_part}
 use Rattle.bind.proofs.Entry.{args_counted, args_few, Entered, entered, def_stretch, call_stretch, table_short}
@@ -137,10 +133,11 @@ module _ {t ns : List ℕ} {call def n : ℕ} (k : Ready t ns call def n) {flat 
 
 -- words that agree at every place give the same reports
 module _ (vs ws : List ℕ) (agree : (i : ℕ) → get_or vs i 0 ≡ get_or ws i 0) where
-  one_same : (at place : ℕ) (q : Place) → report_of vs at (get_or vs place 0) q ≡ report_of ws at (get_or ws place 0) q
+  one_same : (at place : ℕ) (q : Option ℕ)
+      → report_of vs at (get_or vs place 0) q ≡ report_of ws at (get_or ws place 0) q
   unfolding report_of
-  one_same at place Nothing = refl
-  one_same at place (At q) = rw (agree place, agree q) refl
+  one_same at place None = refl
+  one_same at place (Some q) = rw (agree place, agree q) refl
 
   pub reads_same : (fs : List FlatParam) (place : ℕ) (qs : List Labelled)
       → reports_from fs vs place qs ≡ reports_from fs ws place qs
@@ -208,7 +205,7 @@ module _ (t ns : List ℕ) (call def room : ℕ) (e : entry_of t ns call def roo
     pub flat_is_lem : flat ≡ length (flats (list_of t ns def))
     pub words_are : words ≡ own ++ drop (length own) (replicate 4200 0)
 
-  module _ (x : Bound) {space words : List ℕ} (space-is : space ≡ replicate 4200 0)
+  module _ (x : Result Bound Refusal) {space words : List ℕ} (space-is : space ≡ replicate 4200 0)
       (x-is : (bound x ≡ bind_of t ns call def (length space))
       × (words ≡ binding.list_after t ns call def space)) where
     abbrev b : Answer
@@ -225,16 +222,16 @@ module _ (t ns : List ℕ) (call def room : ℕ) (e : entry_of t ns call def roo
     unfolding binding.list_after
     left = x-is.1 ∙ rw (all, words_same, space-is) refl
 
-    pub bind_told : {flat many : ℕ} → x ≡ Accepted flat many → Bind flat words
-    bind_told {flat} {many} h = go b refl (rw h at told) left
+    pub bind_told : {found : Bound} → x ≡ Ok found → Bind found.flat words
+    bind_told {found} h = go b refl (rw h at told) left
       where
         go : (a : Answer) → bound_of t ns call def room ≡ a
-            → accepted (flat ∷ many ∷ []) ≡ answered_at a t ns call def
-            → words ≡ binding.laid a (replicate 4200 0) → Bind flat words
+            → accepted (found.flat ∷ found.many ∷ []) ≡ answered_at a t ns call def
+            → words ≡ binding.laid a (replicate 4200 0) → Bind found.flat words
         go (accepted ws) a-is e w = record { own = ws; is = a-is; flat_is_lem = cc; words_are = w }
         go (refused n vs) a-is e w = never_passed (sym e)
 
-    pub bind_refused : {why : Refusal} → x ≡ Unbound why → bound_of t ns call def room ≡ refusal why
+    pub bind_refused : {why : Refusal} → x ≡ Err why → bound_of t ns call def room ≡ refusal why
     bind_refused {why} h = go b (rw h at told)
       where
         go : (a : Answer) → refusal why ≡ answered_at a t ns call def → a ≡ refusal why
@@ -248,29 +245,30 @@ module _ (t ns : List ℕ) (call def : ℕ) (list : List ℕ) where
   unfolding namesakes_of list_after
   refused_told why h = rw h (refl, refl)
 
-  pub entry_refused : {x : Checked} → checked x ≡ entry_of t ns call def (length list) → {why : Refusal}
-      → x ≡ Refused why
+  pub entry_refused : {x : Result (Unit {0}) Refusal} → checked x ≡ entry_of t ns call def (length list)
+      → {why : Refusal}
+      → x ≡ Err why
       → (refusal why ≡ namesakes_of t ns call def (length list)) × (list ≡ list_after t ns call def list)
   unfolding bound_of
   entry_refused x-is {why} h = refused_told why
       (let told : entry_of t ns call def (length list) ≡ refusal why = sym x-is ∙ ap checked h in rw told refl)
 
-  pub entry_passed : {x : Checked} → checked x ≡ entry_of t ns call def (length list) → x ≡ Sound
+  pub entry_passed : {x : Result (Unit {0}) Refusal} → checked x ≡ entry_of t ns call def (length list) → x ≡ Ok tt
       → entry_of t ns call def (length list) ≡ accepted []
   entry_passed x-is h = sym x-is ∙ ap checked h
 
-  module _ (e : entry_of t ns call def (length list) ≡ accepted []) (x : Bound) {space words : List ℕ}
+  module _ (e : entry_of t ns call def (length list) ≡ accepted []) (x : Result Bound Refusal) {space words : List ℕ}
       (space-is : space ≡ replicate 4200 0)
       (x-is : (bound x ≡ bind_of t ns call def (length space)) × (words ≡ binding.list_after t ns call def space)) where
-    pub bound_refused : {why : Refusal} → x ≡ Unbound why
+    pub bound_refused : {why : Refusal} → x ≡ Err why
         → (refusal why ≡ namesakes_of t ns call def (length list)) × (list ≡ list_after t ns call def list)
     bound_refused {why} h = refused_told why (bind_refused t ns call def (length list) e x space-is x-is h)
 
-    module _ {flat many : ℕ} (h : x ≡ Accepted flat many) where
-      made : Bind t ns call def (length list) e flat words
+    module _ {b : Bound} (h : x ≡ Ok b) where
+      made : Bind t ns call def (length list) e b.flat words
       made = bind_told t ns call def (length list) e x space-is x-is h
 
-      pub bound_ready : Ready t ns call def (length list) × (flat ≡ length (flats (list_of t ns def)))
+      pub bound_ready : Ready t ns call def (length list) × (b.flat ≡ length (flats (list_of t ns def)))
       bound_ready = (ready t ns call def (length list) e, made.flat_is_lem)
 
       reports_same : reports_at t ns call def words ≡ reports_at t ns call def made.own

@@ -1,5 +1,6 @@
 -- The job: its answer and the list afterwards, for every input. These are definitions.
-use Rattle.std.specs.Prelude.{List, [], ◌∷◌, ℕ, ◌*◌, length, leb}
+use Rattle.std.specs.Prelude.{List, [], ◌∷◌, ℕ, ◌*◌, length, leb, Err, Ok, Result}
+use Rattle.table.specs.declared.Refusal.{Refusal}
 use Rattle.fields.specs.Choice.{if'}
 use Rattle.fields.specs.Over.{over}
 use Rattle.forest.specs.Forest.{node_of, tree_of}
@@ -12,8 +13,6 @@ use Rattle.arguments.specs.Written.{Argument}
 use Rattle.bind.specs.FlatList.{flats}
 use Rattle.bind.specs.Job.{def_check, lists_bound, arguments_at}
 use Rattle.namesakes.specs.Namesake.{Labelled, labelled_of, Report, reports, rows}
-use Rattle.namesakes.specs.declared.Named.{Named}
-use Rattle.namesakes.specs.declared.Named.TheVariants.{Found, Refused}
 
 -- the arguments of a node of a table, with their names
 unfoldable pub labelled_at : List ℕ → List ℕ → ℕ → List Labelled
@@ -62,6 +61,6 @@ unfoldable pub list_after : List ℕ → List ℕ → ℕ → ℕ → List ℕ �
 list_after t names call def list = laid (bound_of t names call def (length list)) (reports_at t names call def) list
 
 -- what the answer of code means
-abbrev pub named : Named → Answer
-named (Found n) = accepted (n ∷ [])
-named (Refused r) = refusal r
+abbrev pub named : Result ℕ Refusal → Answer
+named (Ok n) = accepted (n ∷ [])
+named (Err r) = refusal r

@@ -1,12 +1,10 @@
 -- Namesakes: an argument whose expression has the name of an ordinary parameter, and that reaches another parameter.
 -- These are definitions.
-use Rattle.std.specs.Prelude.{Bool, ◌||◌, ◌&&◌, List, [], ◌∷◌, ◌++◌, ℕ, ◌+◌, length, get_or, eqb}
+use Rattle.std.specs.Prelude.{Bool, ◌||◌, ◌&&◌, List, [], ◌∷◌, ◌++◌, ℕ, ◌+◌, length, get_or, eqb, None, Option, Some}
 use Rattle.fields.specs.Choice.{if'}
 use Rattle.forest.specs.Forest.{Tree, node, Forest, none, ◌then◌}
 use Rattle.forest.specs.Names.{name_of, same}
 use Rattle.soundness.specs.KindNumbers.{kind_dot, kind_identifier}
-use Rattle.table.specs.declared.Place.{Place}
-use Rattle.table.specs.declared.Place.TheVariants.{At, Nothing}
 use Rattle.deflist.specs.Written.{Name}
 use Rattle.deflist.specs.Unpack.{mode_pos_only, mode_pos_or_name, mode_name_only}
 use Rattle.arguments.specs.Written.{Argument, node_in, argument_of}
@@ -46,13 +44,13 @@ abbrev pub ordinary : ℕ → Bool
 ordinary mode = eqb mode mode_pos_only || (eqb mode mode_pos_or_name || eqb mode mode_name_only)
 
 -- the flat index of the ordinary parameter of this name, where the first parameter has the index i
-unfoldable pub ordinary_from : ℕ → Name → List FlatParam → Place
-ordinary_from i x [] = Nothing
+unfoldable pub ordinary_from : ℕ → Name → List FlatParam → Option ℕ
+ordinary_from i x [] = None
 ordinary_from i x (p ∷ ps) =
-    if' (ordinary p.mode && same p.name x) (λ _. At i) (λ _. ordinary_from (i + 1) x ps)
+    if' (ordinary p.mode && same p.name x) (λ _. Some i) (λ _. ordinary_from (i + 1) x ps)
 
-unfoldable pub namesake_of : List FlatParam → Label → Place
-namesake_of fs nameless = Nothing
+unfoldable pub namesake_of : List FlatParam → Label → Option ℕ
+namesake_of fs nameless = None
 namesake_of fs (label x) = ordinary_from 0 x fs
 
 -- what is reported: the argument's node, the flat index of the parameter that it reaches, the flat index of the
@@ -65,9 +63,9 @@ pub record Report : Type 0 where
 
 -- the report of an argument at a node, by the parameter that it reaches and by its namesake; ws are the words of the
 -- binding
-unfoldable pub report_of : List ℕ → ℕ → ℕ → Place → List Report
-report_of ws at p Nothing = []
-report_of ws at p (At q) =
+unfoldable pub report_of : List ℕ → ℕ → ℕ → Option ℕ → List Report
+report_of ws at p None = []
+report_of ws at p (Some q) =
     if' (eqb p q) (λ _. []) (λ _. record { argument = at; reached = p; namesake = q; taken = get_or ws q 0 } ∷ [])
 
 -- the reports of arguments, in order, where the word of the first one is at `place`

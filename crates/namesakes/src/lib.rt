@@ -7,7 +7,6 @@ ghost use Rattle.forest.specs.Forest.{record_bytes, node_of, kids_of, forest};
 ghost use Rattle.forest.specs.Names.{name_of, same};
 ghost use Rattle.table.specs.Answer.{accepted, checked};
 ghost use Rattle.table.specs.Check.{most_nodes, most_bytes};
-ghost use Rattle.table.specs.declared.Place.TheVariants.{At};
 ghost use Rattle.arguments.specs.Written.{arguments_in};
 ghost use Rattle.bind.specs.FlatList.{flats};
 ghost use Rattle.bind.specs.Job.{arguments_at};
@@ -17,18 +16,10 @@ ghost use Rattle.namesakes.specs.Namesake.{label_of, labelled_in, ordinary_from,
 ghost use Rattle.namesakes.specs.Job.{entry_of, reports_at, written, namesakes_of, list_after, named};
 ghost use Rattle.namesakes.specs.Reading.{is_normal, is_named, flats_of, Ready};
 
-use bind::Bound;
-use deflist::{Kind, entry};
-use forest::RECORD;
+use deflist::{Kind, Params, entry};
+use forest::{Nodes, RECORD};
 use soundness::kinds;
-use table::{Checked, MOST_NODES, Place, Refusal, Wanted, numbers};
-
-// The answer of the job: the number of arguments reported, or a refusal.
-#[derive(Clone, Copy)]
-pub enum Named {
-    Found(u32),
-    Refused(Refusal),
-}
+use table::{MOST_NODES, Refusal, Wanted, numbers};
 
 // Room for the words of every binding: a word for each flat parameter and for each argument.
 const MOST_WORDS: usize = 2 * MOST_NODES;
@@ -37,16 +28,19 @@ const MOST_WORDS: usize = 2 * MOST_NODES;
 // for each at the front of the list: the argument's node, the flat index of the parameter that it reaches, the flat
 // index of the parameter that has its name, and the node of the argument that this parameter takes, or 0. Or a refusal:
 // 1 to 4, 6, 7, then those of the binding.
-pub fn namesakes(table: &[u8], names: &[u8], call: usize, def: usize, list: &mut [u32]) -> Named
+pub fn namesakes(
+    table: &[u8],
+    names: &[u8],
+    call: usize,
+    def: usize,
+    list: &mut [u32],
+) -> Result<u32, Refusal>
     ensures result_value { named result ≡
         namesakes_of table.now names.now call def (length list.old) }
     ensures list_after { list.new ≡
         list_after table.now names.now call def list.old }
 {
-    let entered = enter(table, names, call, def, list.len());
-    if let Checked::Refused(why) = entered {
-        return Named::Refused(why);
-    }
+    enter(table, names, call, def, list.len())?;
     let mut space = [0u32; MOST_WORDS];
     let words: &mut [u32] = &mut space;
     bound(table, names, call, def, words, list)
@@ -60,7 +54,7 @@ fn bound(
     def: usize,
     words: &mut [u32],
     list: &mut [u32],
-) -> Named
+) -> Result<u32, Refusal>
     requires list_value { entry_of table.now names.now call def (length list.old) ≡ accepted [] }
     requires words_value { words.old ≡ replicate (2 * most_nodes) 0 }
     ensures result_value { named result ≡
@@ -68,30 +62,22 @@ fn bound(
     ensures list_after { list.new ≡
         list_after table.now names.now call def list.old }
 {
-    let answer = bind::bind(table, names, call, def, words);
-    match answer {
-        Bound::Accepted { flat, many } => {
-            Named::Found(report(table, names, call, def, flat, words, list))
-        }
-        Bound::Refused(why) => Named::Refused(why),
-    }
+    let bound = bind::bind(table, names, call, def, words)?;
+    Ok(report(table, names, call, def, bound.flat, words, list))
 }
 
 // 1 to 4, 6 and 7.
-fn enter(table: &[u8], names: &[u8], call: usize, def: usize, room: usize) -> Checked
+fn enter(table: &[u8], names: &[u8], call: usize, def: usize, room: usize) -> Result<(), Refusal>
     ensures { checked result ≡ entry_of table.now names.now call def room }
 {
-    let entered = table::enter(table, names, call, Wanted::Call);
-    if let Checked::Refused(why) = entered {
-        return Checked::Refused(why);
-    }
+    table::enter(table, names, call, Wanted::Call)?;
     if !bind::is_def(table, def) {
-        return Checked::Refused(Refusal::Bare(numbers::WRONG_NODE));
+        return Err(Refusal::Bare(numbers::WRONG_NODE));
     }
     if room < 4 * argument_count(table, call) {
-        return Checked::Refused(Refusal::Bare(numbers::SHORT_BUFFER));
+        return Err(Refusal::Bare(numbers::SHORT_BUFFER));
     }
-    Checked::Sound
+    Ok(())
 }
 
 // The number of arguments of the call at a node: what follows its callee.
@@ -109,14 +95,7 @@ fn count(args: &[u8]) -> usize
     ensures by_index { (names : List ℕ) (i : ℕ) → result ≡ length (arguments_in names (forest i args.now)) }
     ensures result_in_bounds { record_bytes * result ≤ length args.now }
 {
-    let mut left = args;
-    let mut n = 0;
-    while RECORD <= left.len() {
-        let e = forest::span(left);
-        left = &left[e..];
-        n += 1;
-    }
-    n
+    Nodes { at: 0, left: args }.count()
 }
 
 // Writes the reports of a call and a def that are bound, and returns their number. `flat` is the flat count, and
@@ -165,18 +144,16 @@ fn along(
         written (reports_from (flats_of names.now i params.now) words.now from
         (labelled_in names.now (forest first args.now))) list.old }
 {
-    let mut left = args;
-    let mut at = first;
     let mut place = from;
     let mut found = 0;
-    while RECORD <= left.len() {
+    for (at, left) in (Nodes {
+        at: first,
+        left: args,
+    }) {
         let q = namesake(names, params, left);
         let p = word(words, place);
         let next = 4 * found;
         found += put(q, at as u32, p, words, &mut list[next..]);
-        let e = forest::span(left);
-        at += e / RECORD;
-        left = &left[e..];
         place += 1;
     }
     found
@@ -184,22 +161,22 @@ fn along(
 
 // Writes the report of an argument at a node, if there is one, to the front of a list. p is the flat index of the
 // parameter that the argument reaches, q that of the parameter with its name. Returns the number of reports: 0 or 1.
-fn put(q: Place, at: u32, p: u32, words: &[u32], list: &mut [u32]) -> usize
+fn put(q: Option<u32>, at: u32, p: u32, words: &[u32], list: &mut [u32]) -> usize
     requires { 4 ≤ length list.old }
     ensures value { result ≡ length (report_of words.now at p q) }
     ensures list_after { list.new ≡ written (report_of words.now at p q) list.old }
 {
     match q {
-        Place::At(i) => put_other(i, at, p, words, list),
-        Place::Nothing => 0,
+        Some(i) => put_other(i, at, p, words, list),
+        None => 0,
     }
 }
 
 // The same where a parameter has the argument's name: there is a report if it is not the parameter that is reached.
 fn put_other(q: u32, at: u32, p: u32, words: &[u32], list: &mut [u32]) -> usize
     requires { 4 ≤ length list.old }
-    ensures value { result ≡ length (report_of words.now at p (At q)) }
-    ensures list_after { list.new ≡ written (report_of words.now at p (At q)) list.old }
+    ensures value { result ≡ length (report_of words.now at p (Some q)) }
+    ensures list_after { list.new ≡ written (report_of words.now at p (Some q)) list.old }
 {
     if p == q {
         return 0;
@@ -222,7 +199,7 @@ fn word(words: &[u32], i: usize) -> u32
 }
 
 // The ordinary parameter that has the name of the first argument of a stretch.
-fn namesake(names: &[u8], params: &[u8], t: &[u8]) -> Place
+fn namesake(names: &[u8], params: &[u8], t: &[u8]) -> Option<u32>
     requires { length params.now ≤ most_bytes }
     ensures { (i j : ℕ) → result ≡
         namesake_of (flats_of names.now i params.now)
@@ -230,7 +207,7 @@ fn namesake(names: &[u8], params: &[u8], t: &[u8]) -> Place
 {
     let expression = deflist::children(t);
     if !is_named(expression) {
-        return Place::Nothing;
+        return None;
     }
     find(names, forest::names::name(names, expression), params)
 }
@@ -244,23 +221,25 @@ fn is_named(t: &[u8]) -> bool
 }
 
 // The flat index of the ordinary parameter of this name.
-fn find(names: &[u8], name: &[u8], params: &[u8]) -> Place
+fn find(names: &[u8], name: &[u8], params: &[u8]) -> Option<u32>
     requires { length params.now ≤ most_bytes }
     ensures { (i : ℕ) → result ≡
         ordinary_from 0 name.now (flats_of names.now i params.now) }
 {
-    let mut left = params;
     let mut flat = 0;
-    while entry::listed(left) {
+    for (_, left) in (Params {
+        nodes: Nodes {
+            at: 0,
+            left: params,
+        },
+    }) {
         let kind = entry::kind_of(left);
         if is_called(names, name, left, kind) {
-            return Place::At(flat);
+            return Some(flat);
         }
         flat += flat_count(kind);
-        let e = forest::span(left);
-        left = &left[e..];
     }
-    Place::Nothing
+    None
 }
 
 // Whether the first parameter of a stretch is an ordinary one of this name.

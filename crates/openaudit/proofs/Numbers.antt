@@ -3,6 +3,7 @@
 -- both are (`then_small`), and a choice is small if both arms are (`if_small`). The induction is on the written
 -- arguments, or on the tree, together for rules that refer to each other. Cite `call_small`, `target_small`,
 -- `assignment_small` and `type_small`. Assumes nothing.
+use Rattle.std.specs.Prelude.{None, Option, Some, ℕ}
 use mathlib.Core.Path.{◌≡◌, refl}
 use mathlib.Core.Bool.{Bool, true, false, ◌&&◌}
 use mathlib.Core.List.{List, [], ◌∷◌, ◌++◌}
@@ -14,8 +15,6 @@ use Rattle.dialect.specs.declared.DialectTypes.{DialectTypes}
 use Rattle.dialect.specs.declared.Edition.{Edition}
 use Rattle.dialect.specs.Rows.{permits_types}
 use Rattle.forest.specs.Forest.{Node, Tree, node, Forest, none, ◌then◌}
-use Rattle.forest.specs.declared.Found.{Found}
-use Rattle.forest.specs.declared.Found.TheVariants.{At, Nothing}
 use Rattle.soundness.specs.KindNumbers.{kind_assign_modify, kind_dot, kind_identifier, kind_list}
 use Rattle.table.specs.Answer.{Answer, accepted, refused, and_then}
 use Rattle.arguments.specs.Written.{Argument, node_in, kind_in, arguments_of}
@@ -68,11 +67,11 @@ if_check : (b : Bool) (x y : Unit {0} → Check) → small_check (x tt) ≡ true
 if_check true x y p q = p
 if_check false x y p q = q
 
-name_small : (found : Found) → small_check (new_name found) ≡ true
-name_small (At i) = refl
-name_small Nothing = refl
+name_small : (found : Option ℕ) → small_check (new_name found) ≡ true
+name_small (Some i) = refl
+name_small None = refl
 
-rule_small : (stage : ArgsStage) (found : Found) (k : Kind) → small_check (rule stage found k) ≡ true
+rule_small : (stage : ArgsStage) (found : Option ℕ) (k : Kind) → small_check (rule stage found k) ≡ true
 rule_small stage found Positional = if_check (past_positional stage) _ _ refl refl
 rule_small stage found Named = if_check (past_named stage) _ _ refl (name_small found)
 rule_small stage found Args = if_check (past_named stage) _ _ refl refl

@@ -20,7 +20,7 @@ use Rattle.deflist.specs.Written.{root_in, written_in}
 use Rattle.arguments.specs.Job.{call_answer}
 use Rattle.targets.specs.Targets.{counted, check_assignment}
 use Rattle.types.specs.Types.{dialect_check_type}
-use Rattle.errors.specs.declared.Err.{Err}
+use Rattle.errors.specs.declared.Finding.{Finding}
 use Rattle.errors.specs.declared.Listing.TheVariants.{Own}
 use Rattle.errors.specs.Errors.{is_list_error, without_lists, kept}
 use Rattle.opening.specs.Opening.{opened, without}
@@ -32,7 +32,7 @@ use Rattle.audit.specs.Refusals.{refused_err, answer_errors, kind_errors, role_e
 use Rattle.openaudit.proofs.Numbers.{small, call_small, target_small, assignment_small, type_small}
 
 -- LAW: two filters, in either order
-pub own_swaps : (out : ℕ → Bool) (es : List Err) → kept Own (without out es) ≡ without out (kept Own es)
+pub own_swaps : (out : ℕ → Bool) (es : List Finding) → kept Own (without out es) ≡ without out (kept Own es)
 unfolding without without_lists
 own_swaps out [] = refl
 own_swaps out (e ∷ es) = go (out e.number) (is_list_error e.number) refl refl (own_swaps out es)
@@ -44,21 +44,21 @@ own_swaps out (e ∷ es) = go (out e.number) (is_list_error e.number) refl refl 
     go true true p q rest = rest
     go true false p q rest = rw p rest
     go false true p q rest = rw q rest
-    go false false p q rest = rw (p, q) (ap (λ (xs : List Err). e ∷ xs) rest)
+    go false false p q rest = rw (p, q) (ap (λ (xs : List Finding). e ∷ xs) rest)
 
 module _ (d e : Dialect) where
   -- no error of a list is removed
-  abbrev Stay : List Err → Type 0
+  abbrev Stay : List Finding → Type 0
   Stay es = without (opened d e) es ≡ es
 
   stay_none : Stay []
   unfolding without
   stay_none = refl
 
-  stay_both : (es fs : List Err) → Stay es → Stay fs → Stay (es ++ fs)
+  stay_both : (es fs : List Finding) → Stay es → Stay fs → Stay (es ++ fs)
   stay_both es fs p q = without_append (opened d e) es fs ∙ rw (p, q) refl
 
-  stay_if : (b : Bool) (x y : Unit {0} → List Err) → Stay (x tt) → Stay (y tt) → Stay (if' b x y)
+  stay_if : (b : Bool) (x y : Unit {0} → List Finding) → Stay (x tt) → Stay (y tt) → Stay (if' b x y)
   stay_if true x y p q = p
   stay_if false x y p q = q
 

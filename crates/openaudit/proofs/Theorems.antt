@@ -4,6 +4,7 @@
 -- job reads the dialect, which accepts no less if types are open (`type_stays`). If types are not newly opened, the
 -- whole list is the first without the opened numbers (`audit_opened`); if they are, 45 gives way to 40 to 44 (Example).
 -- The inductions are in Stays, Numbers and opening. Assumes nothing.
+use Rattle.std.specs.Prelude.{None, Option, Some}
 use mathlib.Core.Path.{◌≡◌, refl, sym, ◌∙◌}
 use mathlib.Core.Bool.{Bool, true, false}
 use mathlib.Core.List.{List, [], ◌∷◌}
@@ -13,11 +14,8 @@ use Rattle.fields.specs.Choice.{if'}
 use Rattle.fields.proofs.Basics.{never}
 use Rattle.dialect.specs.declared.Dialect.{Dialect}
 use Rattle.dialect.specs.declared.Edition.{Edition}
-use Rattle.dialect.specs.declared.EditionRead.{EditionRead}
-use Rattle.dialect.specs.declared.EditionRead.TheVariants.{Known, Unknown}
 use Rattle.dialect.specs.Editions.{edition_of}
 use Rattle.dialect.specs.declared.DialectTypes.{DialectTypes}
-use Rattle.dialect.specs.declared.Decoded.TheVariants.{Valid}
 use Rattle.dialect.specs.Rows.{permits_types}
 use Rattle.dialect.specs.Bytes.{from_bytes}
 use Rattle.forest.specs.Forest.{Tree, node, Forest, forest, tree_of}
@@ -27,7 +25,7 @@ use Rattle.table.specs.declared.Wanted.TheVariants.{Expression}
 use Rattle.table.specs.Numbers.{types_disabled}
 use Rattle.types.specs.Types.{«unpack», dialect_check_type}
 use Rattle.types.specs.Jobs.{room_check, type_at, type_shape_of}
-use Rattle.errors.specs.declared.Err.{Err}
+use Rattle.errors.specs.declared.Finding.{Finding}
 use Rattle.errors.specs.declared.Listing.TheVariants.{Own}
 use Rattle.errors.specs.Errors.{kept}
 use Rattle.validate.specs.Module.{validate_module}
@@ -70,21 +68,22 @@ tree_stays edition names x y (node r ks) least h = go (permits_types x) (permits
     go true false least h = never (cc)
     go false b least h = never (cc)
 
-module _ (t names first second : List ℕ) (n : ℕ) {d e : Dialect} (one : from_bytes first ≡ Valid d)
-    (two : from_bytes second ≡ Valid e) (all : permits_all d e ≡ true) where
+module _ (t names first second : List ℕ) (n : ℕ) {d e : Dialect} (one : from_bytes first ≡ Some d)
+    (two : from_bytes second ≡ Some e) (all : permits_all d e ≡ true) where
   type_stays : (i room : ℕ) → is_accepted (type_shape_of t names first n i room) ≡ true
       → is_accepted (type_shape_of t names second n i room) ≡ true
   unfolding type_shape_of rules_of given_of type_at
   type_stays i room h = rw two (go (check_of t names) (edition_of n) (rw one at h))
     where
-      asked : Answer → EditionRead → Dialect → Answer
-      asked a read x = in_rules (ruling (handing a (Valid x)) read)
+      asked : Answer → Option Edition → Dialect → Answer
+      asked a read x = in_rules (ruling (handing a (Some x)) read)
           (λ y edition. type_at edition t names y.enable_types i room)
 
-      go : (a : Answer) (read : EditionRead) → is_accepted (asked a read d) ≡ true → is_accepted (asked a read e) ≡ true
+      go : (a : Answer) (read : Option Edition) → is_accepted (asked a read d) ≡ true
+          → is_accepted (asked a read e) ≡ true
       go (refused m vs) read h = never (cc)
-      go (accepted vs) Unknown h = never (cc)
-      go (accepted vs) (Known edition) h =
+      go (accepted vs) None h = never (cc)
+      go (accepted vs) (Some edition) h =
           then_stays (node_check t i Expression) _ _ (then_stays (room_check room (stretch_of t i)) _ _
           (tree_stays edition names d.enable_types e.enable_types (tree_of i (stretch_of t i))
           (permits all).types)) h
@@ -116,8 +115,8 @@ module _ (t names first second : List ℕ) (n : ℕ) {d e : Dialect} (one : from
     unfolding audit_errors pass_errors
     parts_opened edition =
         let ts : Forest = forest 0 (take most_bytes t) in
-        let told : List Err = validate_module d names ts in
-        let refused' : List Err = refusals d edition names (placed Nowhere ts) in
+        let told : List Finding = validate_module d names ts in
+        let refused' : List Finding = refusals d edition names (placed Nowhere ts) in
         rw (
           second_clause d e all top names ts,
           own_swaps (opened d e) told,
@@ -126,7 +125,7 @@ module _ (t names first second : List ℕ) (n : ℕ) {d e : Dialect} (one : from
         ∙ rw (refusals_stay d e d edition names (placed Nowhere ts)) refl))
 
     -- the errors that are left
-    abbrev pub left : List Err
+    abbrev pub left : List Finding
     left = without (opened d e) (all_errors t names first n)
 
     -- THEOREM: if types are not newly opened, the list of the audit is the first without the opened numbers
@@ -134,11 +133,11 @@ module _ (t names first second : List ℕ) (n : ℕ) {d e : Dialect} (one : from
     unfolding all_errors rules_of given_of without
     audit_opened = rw (one, two) (go (check_of t names) (edition_of n))
       where
-        go : (a : Answer) (read : EditionRead) → audit_in (ruling (handing a (Valid e)) read) names t
-            ≡ without (opened d e) (audit_in (ruling (handing a (Valid d)) read) names t)
+        go : (a : Answer) (read : Option Edition) → audit_in (ruling (handing a (Some e)) read) names t
+            ≡ without (opened d e) (audit_in (ruling (handing a (Some d)) read) names t)
         go (refused m vs) read = refl
-        go (accepted vs) Unknown = refl
-        go (accepted vs) (Known edition) = parts_opened edition
+        go (accepted vs) None = refl
+        go (accepted vs) (Some edition) = parts_opened edition
 
     -- THEOREM: the answer is the number of these errors, or the same refusal
     pub audit_total_opened : audit_of t names second n
@@ -146,9 +145,9 @@ module _ (t names first second : List ℕ) (n : ℕ) {d e : Dialect} (one : from
     unfolding rules_of given_of
     audit_total_opened = rw (audit_opened, one, two) (go (check_of t names) (edition_of n))
       where
-        go : (a : Answer) (read : EditionRead)
-            → in_rules (ruling (handing a (Valid e)) read) (λ _ _. accepted (length left ∷ []))
-            ≡ in_rules (ruling (handing a (Valid d)) read) (λ _ _. accepted (length left ∷ []))
+        go : (a : Answer) (read : Option Edition)
+            → in_rules (ruling (handing a (Some e)) read) (λ _ _. accepted (length left ∷ []))
+            ≡ in_rules (ruling (handing a (Some d)) read) (λ _ _. accepted (length left ∷ []))
         go (refused m vs) read = refl
-        go (accepted vs) Unknown = refl
-        go (accepted vs) (Known edition) = refl
+        go (accepted vs) None = refl
+        go (accepted vs) (Some edition) = refl

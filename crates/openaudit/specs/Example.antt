@@ -3,7 +3,7 @@
 use Rattle.std.specs.Prelude.{List, [], ◌∷◌, ◌++◌, ℕ}
 use Rattle.soundness.specs.KindNumbers.{kind_assign, kind_identifier, kind_int}
 use Rattle.table.specs.Numbers.{invalid_type, types_disabled}
-use Rattle.errors.specs.declared.Err.{Err}
+use Rattle.errors.specs.declared.Finding.{Finding}
 use Rattle.errors.specs.Errors.{err}
 use Rattle.opening.specs.Example.{full_record, plain_record, span}
 
@@ -21,8 +21,8 @@ abbrev pub types_open : List ℕ
 types_open = 1 ∷ 1 ∷ 1 ∷ 0 ∷ 0 ∷ 2 ∷ 1 ∷ 0 ∷ 0 ∷ []
 
 -- before: a type in a dialect without types, 45; after: the type is checked, and 1 is not a type, 40
-abbrev pub before : List Err
+abbrev pub before : List Finding
 before = err types_disabled 2 (span 3 4) ∷ []
 
-abbrev pub after : List Err
+abbrev pub after : List Finding
 after = err invalid_type 2 (span 3 4) ∷ []

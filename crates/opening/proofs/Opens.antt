@@ -12,20 +12,20 @@ use Rattle.fields.specs.Choice.{if'}
 use Rattle.fields.proofs.Basics.{never}
 use Rattle.dialect.specs.declared.Dialect.{Dialect}
 use Rattle.forest.specs.Forest.{Node}
-use Rattle.errors.specs.declared.Err.{Err}
+use Rattle.errors.specs.declared.Finding.{Finding}
 use Rattle.errors.specs.Errors.{err_at, unless}
 use Rattle.opening.specs.Opening.{at_least, newly, opened, without}
 use Rattle.opening.proofs.Filters.{none_if, without_append, without_one}
 
-pub record Opens (d e : Dialect) (es fs : List Err) : Type 0 where
+pub record Opens (d e : Dialect) (es fs : List Finding) : Type 0 where
   pub clean : es ≡ [] → fs ≡ []
   pub exact : d.enable_top_level_stmt ≡ e.enable_top_level_stmt → fs ≡ without (opened d e) es
 
-left_none : (es fs : List Err) → es ++ fs ≡ [] → es ≡ []
+left_none : (es fs : List Finding) → es ++ fs ≡ [] → es ≡ []
 left_none [] fs h = refl
 left_none (e ∷ es) fs h = never (cc)
 
-right_none : (es fs : List Err) → es ++ fs ≡ [] → fs ≡ []
+right_none : (es fs : List Finding) → es ++ fs ≡ [] → fs ≡ []
 right_none [] fs h = h
 right_none (e ∷ es) fs h = never (cc)
 
@@ -35,26 +35,26 @@ module _ {d e : Dialect} where
   unfolding without
   opens_none = record { clean = λ h. h; exact = λ h. refl }
 
-  pub opens_both : {es fs gs hs : List Err} → Opens d e es fs → Opens d e gs hs → Opens d e (es ++ gs) (fs ++ hs)
+  pub opens_both : {es fs gs hs : List Finding} → Opens d e es fs → Opens d e gs hs → Opens d e (es ++ gs) (fs ++ hs)
   opens_both {es} {fs} {gs} {hs} p q = record {
     clean = λ h. rw (p.clean (left_none es gs h), q.clean (right_none es gs h)) refl;
     exact = λ h. rw (p.exact h, q.exact h) (sym (without_append (opened d e) es gs));
   }
 
-  pub opens_if : (b : Bool) (x y v w : Unit {0} → List Err) → Opens d e (x tt) (v tt) → Opens d e (y tt) (w tt)
+  pub opens_if : (b : Bool) (x y v w : Unit {0} → List Finding) → Opens d e (x tt) (v tt) → Opens d e (y tt) (w tt)
       → Opens d e (if' b x y) (if' b v w)
   opens_if true x y v w p q = p
   opens_if false x y v w p q = q
 
   -- LAW: errors that no switch opens are in both lists
-  pub opens_same : {es : List Err} → without (opened d e) es ≡ es → Opens d e es es
+  pub opens_same : {es : List Finding} → without (opened d e) es ≡ es → Opens d e es es
   opens_same stay = record { clean = λ h. h; exact = λ h. sym stay }
 
-  pub opens_one : (x : Err) → opened d e x.number ≡ false → Opens d e (x ∷ []) (x ∷ [])
+  pub opens_one : (x : Finding) → opened d e x.number ≡ false → Opens d e (x ∷ []) (x ∷ [])
   opens_one x stays = opens_same (without_one (opened d e) x stays)
 
   -- LAW: errors of one switch, which are reported if it is off
-  pub opens_switch : (b c : Bool) (es : List Err) → at_least b c ≡ true
+  pub opens_switch : (b c : Bool) (es : List Finding) → at_least b c ≡ true
       → without (opened d e) es ≡ none_if (newly b c) es
       → Opens d e (none_if b es) (none_if c es)
   opens_switch true true es least takes = opens_none

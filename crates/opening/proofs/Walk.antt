@@ -21,7 +21,7 @@ use Rattle.table.specs.Numbers.{def_not_permitted, top_level_for, top_level_if, 
 use Rattle.table.specs.Numbers.{return_misplaced, load_not_at_top, load_not_permitted, ellipsis_not_permitted}
 use Rattle.table.specs.Numbers.{lambda_not_permitted}
 use Rattle.deflist.specs.Written.{Param, params_in}
-use Rattle.errors.specs.declared.Err.{Err}
+use Rattle.errors.specs.declared.Finding.{Finding}
 use Rattle.errors.specs.Errors.{err_at, unless}
 use Rattle.validate.specs.Params.{not_permitted, permits, every_mark, marks, validate_params, with_params}
 use Rattle.validate.specs.Module.{standing, is_banned, told_if, is_if, at_top, in_def, arm_of, on_arm, f, visit_stmt}
@@ -92,7 +92,7 @@ module _ {d e : Dialect} (all : Permits d e) (names : List ℕ) where
       (opens_with d.enable_lambda e.enable_lambda lambda_not_permitted r ks all.lambda refl) opens_none)
 
   -- a statement, if the statements below it are related wherever they are visited
-  module _ (s : Standing) (r : Node) (ks : Forest) (visit wider : Standing → List Err)
+  module _ (s : Standing) (r : Node) (ks : Forest) (visit wider : Standing → List Finding)
       (below : (p : Standing) → Opens d e (visit p) (wider p)) where
     abbrev Tied : Arm → Arm → Type 0
     Tied a b = Opens d e (on_arm d names s r ks visit a) (on_arm e names s r ks wider b)

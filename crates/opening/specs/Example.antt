@@ -6,7 +6,7 @@ use Rattle.dialect.specs.Rows.{row_named}
 use Rattle.soundness.specs.KindNumbers.{kind_if, kind_break, kind_int}
 use Rattle.table.specs.declared.Span.{Span}
 use Rattle.table.specs.Numbers.{top_level_if, break_misplaced}
-use Rattle.errors.specs.declared.Err.{Err}
+use Rattle.errors.specs.declared.Finding.{Finding}
 use Rattle.errors.specs.Errors.{err}
 
 -- a record of 24 bytes in source file 1: its kind and detail, the length of its name, which is at the start of the
@@ -34,8 +34,8 @@ top_level_open = 1 ∷ 1 ∷ 1 ∷ 0 ∷ 0 ∷ 0 ∷ 1 ∷ 1 ∷ 0 ∷ []
 abbrev pub span : ℕ → ℕ → Span
 span b e = record { begin = b; end = e; file = 1 }
 
-abbrev pub before : List Err
+abbrev pub before : List Finding
 before = err top_level_if 0 (span 0 11) ∷ []
 
-abbrev pub after : List Err
+abbrev pub after : List Finding
 after = err break_misplaced 2 (span 6 11) ∷ []

@@ -7,7 +7,7 @@ use Rattle.dialect.specs.declared.DialectTypes.TheVariants.{Disable, ParseOnly, 
 use Rattle.dialect.specs.Rows.{permits_types}
 use Rattle.table.specs.Numbers.{star_not_permitted, slash_not_permitted, def_not_permitted, load_not_permitted}
 use Rattle.table.specs.Numbers.{ellipsis_not_permitted, lambda_not_permitted}
-use Rattle.errors.specs.declared.Err.{Err}
+use Rattle.errors.specs.declared.Finding.{Finding}
 
 -- the second switch is on if the first is on; the second switch is on and the first is off
 abbrev pub at_least : Bool → Bool → Bool
@@ -50,6 +50,6 @@ opened d e n =
     false))))))
 
 -- a list without the errors of some numbers, the rest in order
-unfoldable pub without : (ℕ → Bool) → List Err → List Err
+unfoldable pub without : (ℕ → Bool) → List Finding → List Finding
 without out [] = []
 without out (e ∷ es) = if' (out e.number) (λ _. without out es) (λ _. e ∷ without out es)

@@ -4,6 +4,8 @@
 -- records, and no count is larger than the list is long (deflist's `accepted_bounded`), so each is at most 2,100
 -- (`accepted_small`). The same holds of every list on the way, accepted or refused (`list_short`, `counts_small`).
 -- Assumes nothing.
+use Rattle.std.specs.Prelude.{None, Option, Some}
+use Rattle.deflist.specs.declared.Flat.{Flat}
 use mathlib.Core.Path.{◌≡◌, refl, ◌∙◌}
 use mathlib.Core.Bool.{true}
 use mathlib.Core.List.{List, [], ◌∷◌}
@@ -24,8 +26,6 @@ use Rattle.deflist.specs.Unpack as def
 use Rattle.deflist.specs.Limited.{most_parameters, limited}
 use Rattle.parameters.specs.Indices.{place_range, place_of, values_of, counted_of}
 use Rattle.deflist.specs.Reading.{PlaceBelow, Bounded}
-use Rattle.deflist.specs.declared.FlatPlace.{FlatPlace}
-use Rattle.deflist.specs.declared.FlatPlace.TheVariants.{AtFlat, NoFlat}
 use Rattle.deflist.specs.declared.Counts.{Counts}
 use Rattle.deflist.specs.Reached.{reached, AllAtMost}
 use Rattle.deflist.proofs.Theorems.{accepted_bounded, written_short}
@@ -83,10 +83,10 @@ accepted_passed t ns node room {vs} e =
     go s m (def.repeated i r) u e = never_passed e
     go s m (def.internal i r) u e = never_passed e
 
-place_below : (p : FlatPlace) (n m : ℕ) → PlaceBelow m p → n ≤ m
+place_below : (p : Option Flat) (n m : ℕ) → PlaceBelow m p → n ≤ m
     → ((place_range (place_of p) n).from ≤ m) × ((place_range (place_of p) n).upto ≤ m + 1)
-place_below (AtFlat i) n m h g = (h, omega arith)
-place_below NoFlat n m h g = (g, omega arith)
+place_below (Some i) n m h g = (h, omega arith)
+place_below None n m h g = (g, omega arith)
 
 values_below : (m : ℕ) (c : Counts) → Bounded m m c → AllBelow (m + 1) (values_of (counted_of c))
 unfolding counted_of

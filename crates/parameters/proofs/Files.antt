@@ -2,6 +2,8 @@
 -- are nodes of the tree that it reads (`written_all`), so that its refusals carry the number of the node that they name
 -- (table's `node_files`). The induction is on the written list: each parameter in its turn refuses at itself, and after
 -- the last one 17 and 18 are at one that is already read. Assumes nothing.
+use Rattle.std.specs.Prelude.{None, Option, Some}
+use Rattle.deflist.specs.declared.Written.{Written}
 use mathlib.Core.Bool.{Bool, true, false}
 use mathlib.Core.List.{List, [], ◌∷◌, ◌++◌}
 use Prim.Native.Nat.{ℕ, zero, suc}
@@ -27,8 +29,6 @@ use Rattle.deflist.specs.declared.Kind.{Kind}
 use Rattle.deflist.specs.declared.Kind.TheVariants.{Normal, NoArgs, Slash, Args, KwArgs}
 use Rattle.deflist.specs.declared.Counts.{Counts}
 use Rattle.deflist.specs.declared.Unpacking.{Unpacking}
-use Rattle.deflist.specs.declared.WrittenPlace.{WrittenPlace}
-use Rattle.deflist.specs.declared.WrittenPlace.TheVariants.{AtWritten, NoWritten}
 use Rattle.deflist.specs.Told.{internal_error}
 use Rattle.parameters.specs.Params.{answer_of, room_check, list_answer, params_of}
 
@@ -67,10 +67,10 @@ module _ (P : Node → Type 0) where
   star_at (p ∷ []) c h = h.0
   star_at (p ∷ q ∷ ps) c h = next_at q c h.1.0
 
-  finish_at : (l : List Param) (star : WrittenPlace) (c : Counts) → AllOf l → OutcomeAt (finish l star c)
+  finish_at : (l : List Param) (star : Option Written) (c : Counts) → AllOf l → OutcomeAt (finish l star c)
   unfolding finish
-  finish_at l NoWritten c h = tt
-  finish_at l (AtWritten i) c h = star_at (drop i.0 l) c (all_drop i.0 l h)
+  finish_at l None c h = tt
+  finish_at l (Some i) c h = star_at (drop i.0 l) c (all_drop i.0 l h)
 
   -- the parameters in turn
   after_at : (s : Step) (r : Node) (next : Unpacking → def.Outcome) → P r → ((v : Unpacking) → OutcomeAt (next v))

@@ -4,6 +4,8 @@
 -- follows from the count (`same_modes`). All numbers fit 32 bits (`told_small`), since a list is shorter than its
 -- stretch. `params` puts 1 to 4 and 6 before it: cite `params_refused`, `params_left`, `params_answer`, `params_modes`.
 -- Assumes nothing.
+use Rattle.std.specs.Prelude.{Err, None, Ok, Option, Result, Some, ℕ}
+use Rattle.deflist.specs.declared.Flat.{Flat}
 use mathlib.Core.Path.{◌≡◌, refl, sym, ap, ◌∙◌}
 use mathlib.Core.Bool.{Bool, true, false}
 use mathlib.Core.List.{List, [], ◌∷◌, ◌++◌}
@@ -19,13 +21,7 @@ use Rattle.forest.specs.Forest.{node_of, kids_of, forest}
 use Rattle.table.specs.Numbers.{short_buffer}
 use Rattle.table.specs.Answer.{Answer, accepted, refused, refusal, checked, earlier_values, span_values}
 use Rattle.table.specs.Check.{Headed, stretch_of, entry_check}
-use Rattle.forest.specs.declared.Found.{Found}
-use Rattle.forest.specs.declared.Found.TheVariants.{At, Nothing}
-use Rattle.table.specs.declared.Place.{Place}
-use Rattle.table.specs.declared.Place.TheVariants.{At as AtPlace}
 use Rattle.table.specs.declared.Refusal.{Refusal}
-use Rattle.table.specs.declared.Checked.{Checked}
-use Rattle.table.specs.declared.Checked.TheVariants.{Sound, Refused as Unsound}
 use Rattle.table.specs.declared.Wanted.TheVariants.{Parameters}
 use Rattle.table.proofs.Entering.{job_refused, job_is}
 use Rattle.deflist.specs.Written.{params_in, root_in, written_in, written}
@@ -35,11 +31,7 @@ use Rattle.deflist.specs.Limited.{limited}
 use Rattle.deflist.specs.Told.{told}
 use Rattle.deflist.specs.Reading.{NotPast, Inside, PlaceBelow, Bounded, Exceeds}
 use Rattle.deflist.specs.declared.State.{State}
-use Rattle.deflist.specs.declared.FlatPlace.{FlatPlace}
-use Rattle.deflist.specs.declared.FlatPlace.TheVariants.{AtFlat, NoFlat}
 use Rattle.deflist.specs.declared.Counts.{Counts}
-use Rattle.deflist.specs.declared.Judged.{Judged}
-use Rattle.deflist.specs.declared.Judged.TheVariants.{Accepted, Refused}
 use Rattle.deflist.proofs.Theorems.{accepted_bounded, accepted_only, written_short, modes_short, told_accepted}
 use Rattle.deflist.proofs.Limited.{limited_accepted}
 use Rattle.parameters.specs.declared.Counted.{Counted}
@@ -50,9 +42,9 @@ use Rattle.parameters.specs.Writing.{is_refused, first_of, judged_answer, Small,
 use Rattle.parameters.specs.Writing.{Leaves, earlier_place, fault_answer, SmallFault}
 
 -- wider bounds
-place_wider : {m n : ℕ} (p : FlatPlace) → PlaceBelow m p → m ≤ n → PlaceBelow n p
-place_wider NoFlat h g = tt
-place_wider (AtFlat i) h g = omega arith
+place_wider : {m n : ℕ} (p : Option Flat) → PlaceBelow m p → m ≤ n → PlaceBelow n p
+place_wider None h g = tt
+place_wider (Some i) h g = omega arith
 
 bounded_wider : {m n : ℕ} (c : Counts) → Bounded m m c → m ≤ n → Bounded n n c
 bounded_wider c b h = record {
@@ -63,19 +55,19 @@ bounded_wider c b h = record {
   flat = omega (arith, b.flat);
 }
 
-not_past_wider : {m n : ℕ} (f : Found) → NotPast m f → m ≤ n → NotPast n f
-not_past_wider (At i) h g = omega arith
-not_past_wider Nothing h g = tt
+not_past_wider : {m n : ℕ} (f : Option ℕ) → NotPast m f → m ≤ n → NotPast n f
+not_past_wider (Some i) h g = omega arith
+not_past_wider None h g = tt
 
 -- a refusal at a parameter, as the table has it
-module _ (found : Found) where
-  pub earlier_at : {i : ℕ} → found ≡ At i → AtPlace i ≡ earlier_place found
+module _ (found : Option ℕ) where
+  pub earlier_at : {i : ℕ} → found ≡ Some i → Some i ≡ earlier_place found
   earlier_at h = rw h refl
 
-  pub earlier_small : NotPast 4294967295 found → {i : ℕ} → found ≡ At i → i < 4294967296
+  pub earlier_small : NotPast 4294967295 found → {i : ℕ} → found ≡ Some i → i < 4294967296
   earlier_small small h = omega (arith, rw h at small)
 
-pub fault_answer_lem : (f : Fault) {p : Place} {u : Answer} → p ≡ earlier_place f.earlier
+pub fault_answer_lem : (f : Fault) {p : Option ℕ} {u : Answer} → p ≡ earlier_place f.earlier
     → u ≡ refused f.number (f.node ∷ span_values f.span ++ earlier_values p) → u ≡ fault_answer f
 fault_answer_lem f p-is u-is = u-is ∙ rw p-is refl
 
@@ -87,7 +79,7 @@ judged_answer_lem (def.repeated i r) = refl
 judged_answer_lem (def.internal e r) = refl
 
 -- an accepted answer of unpack, and a refused one
-module _ {j : Judged} {c : Counts} (j-is : j ≡ Accepted c) where
+module _ {j : Result Counts Fault} {c : Counts} (j-is : j ≡ Ok c) where
   pub accepted_small : Small j → Bounded 4294967295 4294967295 c
   accepted_small h = rw j-is at h
 
@@ -97,7 +89,7 @@ module _ {j : Judged} {c : Counts} (j-is : j ≡ Accepted c) where
   pub accepted_first : {s : State} → s ≡ def.first_state c.num_positional_only → s ≡ first_of j
   accepted_first s-is = s-is ∙ sym (ap first_of j-is)
 
-module _ {j : Judged} {f : Fault} (j-is : j ≡ Refused f) where
+module _ {j : Result Counts Fault} {f : Fault} (j-is : j ≡ Err f) where
   pub refused_small : Small j → SmallFault f
   refused_small h = rw j-is at h
 
@@ -105,7 +97,7 @@ module _ {j : Judged} {f : Fault} (j-is : j ≡ Refused f) where
   refused_answer u-is = u-is ∙ sym (ap judged_answer j-is)
 
 -- the modes are kept by a refusal, and written where the list is accepted
-module _ (kids ms : List ℕ) {j : Judged} {b : Bool} (b_is : b ≡ is_refused j) where
+module _ (kids ms : List ℕ) {j : Result Counts Fault} {b : Bool} (b_is : b ≡ is_refused j) where
   pub kept_left : b ≡ true → Kept kids j ms ms
   kept_left h = record { left = λ e. refl; wrote = λ e. clash (sym b_is ∙ h) e }
 
@@ -123,19 +115,19 @@ listed_most {kids} {n} b_is b-no = record {
 abbrev outcome : List ℕ → List ℕ → ℕ → def.Outcome
 outcome ns t node = limited (node_of node t) (written ns node t)
 
-told_counts : (ns t : List ℕ) (node : ℕ) {c : Counts} → Accepted c ≡ told (outcome ns t node)
+told_counts : (ns t : List ℕ) (node : ℕ) {c : Counts} → Ok c ≡ told (outcome ns t node)
     → def.unpack (written ns node t) ≡ def.accepted c
 told_counts ns t node h =
     (limited_accepted (node_of node t) (written ns node t) (told_accepted (outcome ns t node) (sym h))).1
 
 -- every number of the answer is small
-pub told_small : (ns t : List ℕ) (node : ℕ) (j : Judged)
+pub told_small : (ns t : List ℕ) (node : ℕ) (j : Result Counts Fault)
     → j ≡ told (limited (node_of node t) (written ns node t)) → Inside (node + 1 + length t / 24) j → Headed node t
     → Small j
-told_small ns t node (Accepted c) j-is h short =
+told_small ns t node (Ok c) j-is h short =
     bounded_wider c (accepted_bounded (written ns node t) (told_counts ns t node j-is))
     (omega (arith, written_short ns node t))
-told_small ns t node (Refused f) j-is h short =
+told_small ns t node (Err f) j-is h short =
     (omega (arith, h.0), not_past_wider f.earlier h.1 (omega arith))
 
 -- the list of a node: b is whether it is longer than the buffer
@@ -168,7 +160,7 @@ module _ (ns t ms : List ℕ) (node : ℕ) {kids : List ℕ} (kids_are : kids �
         rw zero-add at (sets-eq (modes (written ns node t)) ms 0
         (omega (arith, modes_short (written ns node t), room)))
 
-    pub into_told : {j : Judged} → j ≡ told (limited (node_of node t) (written ns node t)) → {ms' : List ℕ}
+    pub into_told : {j : Result Counts Fault} → j ≡ told (limited (node_of node t) (written ns node t)) → {ms' : List ℕ}
         → Kept kids j ms ms' → {u : Answer} → u ≡ judged_answer j
         → Leaves (node_of node t) (written ns node t) ms u ms'
     unfolding list_answer
@@ -180,15 +172,16 @@ module _ (ns t ms : List ℕ) (node : ℕ) {kids : List ℕ} (kids_are : kids �
           buffer = rw (enough, ← answer_is) (go j j-is k);
         }
       where
-        go : (x : Judged) → x ≡ told (outcome ns t node) → Kept kids x ms ms'
+        go : (x : Result Counts Fault) → x ≡ told (outcome ns t node) → Kept kids x ms ms'
             → ms' ≡ afterwards (judged_answer x) (modes (written ns node t)) ms
-        go (Accepted c) e k = (k.wrote refl).wrote ns (node + 1)
+        go (Ok c) e k = (k.wrote refl).wrote ns (node + 1)
             ∙ ap (sets ms 0) (same_modes (told_counts ns t node e)) ∙ stored
-        go (Refused f) e k = k.left refl
+        go (Err f) e k = k.left refl
 
 -- 1 to 4, 6, then the list
-module _ (t ns : List ℕ) (node : ℕ) {e : Checked} (e-is : checked e ≡ entry_check Parameters t ns node) where
-  module _ {why : Refusal} (h : e ≡ Unsound why) where
+module _ (t ns : List ℕ) (node : ℕ) {e : Result (Unit {0}) Refusal}
+    (e-is : checked e ≡ entry_check Parameters t ns node) where
+  module _ {why : Refusal} (h : e ≡ Err why) where
     pub params_refused : (room : ℕ) → refusal why ≡ params_of t ns node room
     unfolding params_of
     params_refused room =
@@ -198,7 +191,7 @@ module _ (t ns : List ℕ) (node : ℕ) {e : Checked} (e-is : checked e ≡ entr
     unfolding modes_after
     params_left ms = rw (← (params_refused (length ms))) refl
 
-  module _ (good : e ≡ Sound) {s : List ℕ} (s-is : s ≡ stretch_of t node) {ms : List ℕ} {u : Answer} {ms' : List ℕ}
+  module _ (good : e ≡ Ok tt) {s : List ℕ} (s-is : s ≡ stretch_of t node) {ms : List ℕ} {u : Answer} {ms' : List ℕ}
       (h : Leaves (node_of node s) (written ns node s) ms u ms') where
     params_is : params_of t ns node (length ms) ≡ list_answer (node_of node s) (written ns node s) (length ms)
     unfolding params_of written

@@ -4,13 +4,13 @@
 -- or nothing for a mark (`put_mode`, `put_mark`). The flat index is at most the number of parameters read, so there is
 -- room (`write_room`). Assumes nothing.
 use mathlib.Core.Path.{◌≡◌, refl, sym, ap, ◌∙◌}
-use mathlib.Core.Bool.{Bool, true, false}
+use mathlib.Core.Bool.{true, false}
 use mathlib.Core.List.{List, [], ◌∷◌, ◌++◌}
-use Prim.Native.Nat.{ℕ, zero, suc, ◌+◌, ◌-◌, ◌/◌, ◌<◌, ◌≤◌}
+use Prim.Native.Nat.{ℕ, zero, suc, ◌+◌, ◌/◌, ◌<◌, ◌≤◌}
 use native.Mathlib.Omega.{arith}
-use lib.ListN.{length, set, take, drop}
+use lib.ListN.{length, set, drop}
 use lib.Seq.{sets, length-sets}
-use Rattle.forest.specs.Forest.{node_of, span_of, forest}
+use Rattle.forest.specs.Forest.{node_of, span_of, forest, rest_of}
 use Rattle.deflist.specs.Written.{Param, kind_in, param_of, params_in}
 use Rattle.deflist.specs.Unpack.{next_state, mode_of, modes_from}
 use Rattle.deflist.specs.Reading.{is_listed, kind_here}
@@ -18,7 +18,7 @@ use Rattle.deflist.specs.declared.Kind.{Kind}
 use Rattle.deflist.specs.declared.Kind.TheVariants.{Normal, NoArgs, Slash, Args, KwArgs}
 use Rattle.deflist.specs.declared.State.{State}
 use Rattle.deflist.specs.declared.State.TheVariants.{Normal as BeforeSlash, SeenSlash, SeenStar, SeenStarStar}
-use Rattle.deflist.proofs.Reading.{kind_in_lem, Reading, read_start, read_here, read_on, read_end, list_on}
+use Rattle.deflist.proofs.Reading.{kind_in_lem, Reading, read_start, read_here, read_on, read_end, list_next}
 use Rattle.parameters.specs.Writing.{mode_byte, mode_in, AtMost, Modes}
 
 -- the mode byte is the mode
@@ -83,46 +83,43 @@ write_start kids ms s h = record {
 }
 
 module _ {kids ms₀ : List ℕ} {s₀ : State} {ms left : List ℕ} {s : State} {f : ℕ}
-    (x : Writing kids ms₀ s₀ ms left s f) {l : Bool} (l-is : l ≡ is_listed left) where
-  module _ (l-yes : l ≡ true) where
-    listed : is_listed left ≡ true
-    listed = sym l-is ∙ l-yes
-
+    (x : Writing kids ms₀ s₀ ms left s f) where
+  module _ (listed : is_listed left ≡ true) where
     pub write_room : f < length ms
-    write_room = omega (arith, x.flats, x.long, x.most.most [] 0, (read_here (x.reads [] 0) listed refl).within)
+    write_room = omega (arith, x.flats, x.long, x.most.most [] 0, (read_here (x.reads [] 0) listed refl refl).within)
 
     -- storing the next parameter's mode, and then the modes of the rest, is storing those that were left
-    write_next : {k : Kind} → k ≡ kind_here left → {e : ℕ} → e ≡ span_of left → (ns : List ℕ) (i : ℕ)
+    write_next : {k : Kind} → k ≡ kind_here left → (ns : List ℕ) (i : ℕ)
         → sets (sets ms f (mode_of s k)) (f + length (mode_of s k))
         (modes_from (next_state s k) (drop (x.n + 1) (params_in ns (forest i kids))))
         ≡ sets ms₀ 0 (modes_from s₀ (params_in ns (forest i kids)))
-    write_next {k} k_is e-is ns i =
+    write_next {k} k_is ns i =
         let at = x.from ns i in
         let p = param_of ns (node_of at left) in
         let kind : kind_in p ≡ k = kind_in_lem ns at left ∙ sym k_is in
-        let here = (x.reads ns i).rest ∙ list_on ns at left listed e-is in
-        let rest = (read_on (x.reads ns i) listed e-is).rest in
+        let here = (x.reads ns i).rest ∙ list_next ns at left listed refl refl in
+        let rest = (read_on (x.reads ns i) listed refl refl).rest in
         rw rest (
         sym (sets_append (mode_of s k) (modes_from (next_state s k) _) ms f)
         ∙ sym (ap (sets ms f) (cons_modes s p _ kind))
         ∙ ap (λ (y : List Param). sets ms f (modes_from s y)) (sym here)
         ∙ x.same ns i)
 
-    pub write_on : {k : Kind} {m g : ℕ} {ms' : List ℕ} {s' : State} {e : ℕ} → k ≡ kind_here left → m ≡ mode_byte s k
-        → g ≡ f + length (mode_in m) → ms' ≡ sets ms f (mode_in m) → s' ≡ next_state s k → e ≡ span_of left
-        → Writing kids ms₀ s₀ ms' (take (length left - e) (drop e left)) s' g
-    write_on {k} {m} {g} {ms'} {s'} {e} k_is m_is g-is ms-is s-is e-is =
+    pub write_on : {k : Kind} {m g : ℕ} {ms' : List ℕ} {s' : State} {after : List ℕ} → k ≡ kind_here left
+        → m ≡ mode_byte s k → g ≡ f + length (mode_in m) → ms' ≡ sets ms f (mode_in m) → s' ≡ next_state s k
+        → after ≡ rest_of left → Writing kids ms₀ s₀ ms' after s' g
+    write_on {k} {m} {g} {ms'} {s'} k_is m_is g-is ms-is s-is after-is =
         let mode : mode_in m ≡ mode_of s k = ap mode_in m_is ∙ mode_in_lem s k in
         record {
           n = x.n + 1;
           long = ap length ms-is ∙ length-sets ms f (mode_in m) ∙ x.long;
           most = x.most;
           flats = omega (arith, x.flats, g-is, ap length mode, one s k);
-          from = λ ns i. x.from ns i + e / 24;
-          reads = λ ns i. read_on (x.reads ns i) listed e-is;
-          same = λ ns i. rw (ms-is, g-is, s-is, mode) (write_next k_is e-is ns i);
+          from = λ ns i. x.from ns i + span_of left / 24;
+          reads = λ ns i. read_on (x.reads ns i) listed refl after-is;
+          same = λ ns i. rw (ms-is, g-is, s-is, mode) (write_next k_is ns i);
         }
 
-  pub write_end : l ≡ false → Modes kids s₀ ms₀ ms
+  pub write_end : is_listed left ≡ false → Modes kids s₀ ms₀ ms
   unfolding modes_from
-  write_end l-no = record { wrote = λ ns i. rw (read_end (x.reads ns i) (sym l-is ∙ l-no)) at (x.same ns i) }
+  write_end none = record { wrote = λ ns i. rw (read_end (x.reads ns i) none) at (x.same ns i) }

@@ -1,6 +1,8 @@
 -- Two answers of a public function that meet its promise are equal, and so are the buffers that the job leaves. Each
 -- promise is an equation, of the answer or of what it means; no two answers mean the same, because their values give
 -- back every field. Assumes nothing.
+use Rattle.std.specs.Prelude.{Err, None, Ok, Option, Result, Some, ℕ}
+use Rattle.table.specs.declared.Refusal.{Refusal}
 use mathlib.Core.Path.{◌≡◌, refl, sym, ap}
 use mathlib.Core.List.{List}
 use Prim.Native.Nat.{ℕ}
@@ -11,21 +13,17 @@ use Rattle.table.proofs.Answers.{refusal_injective, never_accepted}
 use Rattle.parameters.specs.Indices.{pos_only, pos_or_named, args_range, named_only, kwargs_range, place_range}
 use Rattle.parameters.specs.Indices.{values_of}
 use Rattle.parameters.specs.declared.Range.{Range}
-use Rattle.table.specs.declared.Place.{Place}
-use Rattle.table.specs.declared.Place.TheVariants.{At, Nothing}
 use Rattle.parameters.specs.declared.DefParamIndices.{DefParamIndices}
 use Rattle.parameters.specs.declared.Counted.{Counted}
 use Rattle.parameters.specs.Params.{unpacked, params_of, modes_after}
-use Rattle.parameters.specs.declared.Unpacked.{Unpacked}
-use Rattle.parameters.specs.declared.Unpacked.TheVariants.{Accepted, Refused}
 
 -- a place is determined by its range, and by the range for none
-place_same : (p q : Place) (n m : ℕ) → n ≡ m → (place_range p n).from ≡ (place_range q m).from
+place_same : (p q : Option ℕ) (n m : ℕ) → n ≡ m → (place_range p n).from ≡ (place_range q m).from
     → (place_range p n).upto ≡ (place_range q m).upto → p ≡ q
-place_same (At i) (At j) n m h b e = ap At b
-place_same (At i) Nothing n m h b e = absurd (omega (arith, b, e))
-place_same Nothing (At j) n m h b e = absurd (omega (arith, b, e))
-place_same Nothing Nothing n m h b e = refl
+place_same (Some i) (Some j) n m h b e = ap Some b
+place_same (Some i) None n m h b e = absurd (omega (arith, b, e))
+place_same None (Some j) n m h b e = absurd (omega (arith, b, e))
+place_same None None n m h b e = refl
 
 indices_same : (p q : DefParamIndices) → p.num_positional ≡ q.num_positional
     → p.num_positional_only ≡ q.num_positional_only → p.args ≡ q.args → p.kwargs ≡ q.kwargs → p ≡ q
@@ -51,15 +49,16 @@ values_injective p q e =
     }
 
 -- no two answers mean the same
-pub unpacked_injective : (u v : Unpacked) → unpacked u ≡ unpacked v → u ≡ v
-unpacked_injective (Accepted p) (Accepted q) e = let h : values_of p ≡ values_of q = cc in
-    ap Accepted (values_injective p q h)
-unpacked_injective (Accepted p) (Refused r) e = never_accepted r (sym e)
-unpacked_injective (Refused r) (Accepted p) e = never_accepted r e
-unpacked_injective (Refused r) (Refused s) e = ap Refused (refusal_injective r s e)
+pub unpacked_injective : (u v : Result Counted Refusal) → unpacked u ≡ unpacked v → u ≡ v
+unpacked_injective (Ok p) (Ok q) e = let h : values_of p ≡ values_of q = cc in
+    ap Ok (values_injective p q h)
+unpacked_injective (Ok p) (Err r) e = never_accepted r (sym e)
+unpacked_injective (Err r) (Ok p) e = never_accepted r e
+unpacked_injective (Err r) (Err s) e = ap Err (refusal_injective r s e)
 
 -- of `params`: the answer and the buffer at exit
-pub params_one : (table names : List ℕ) (node : ℕ) (modes : List ℕ) {r s : Unpacked} {modes-r modes-s : List ℕ}
+pub params_one : (table names : List ℕ) (node : ℕ) (modes : List ℕ) {r s : Result Counted Refusal}
+    {modes-r modes-s : List ℕ}
     → unpacked r ≡ params_of table names node (length modes) → modes-r ≡ modes_after table names node modes
     → unpacked s ≡ params_of table names node (length modes) → modes-s ≡ modes_after table names node modes
     → (r ≡ s) × (modes-r ≡ modes-s)

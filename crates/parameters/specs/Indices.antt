@@ -2,12 +2,9 @@
 -- These are definitions.
 -- Copyright 2018 The Starlark in Rust Authors. Copyright (c) Facebook, Inc. and its affiliates.
 -- Licensed under Apache-2.0; changed.
-use Rattle.std.specs.Prelude.{List, [], ◌∷◌, ℕ, ◌+◌}
-use Rattle.deflist.specs.declared.FlatPlace.{FlatPlace}
-use Rattle.deflist.specs.declared.FlatPlace.TheVariants.{AtFlat, NoFlat}
+use Rattle.std.specs.Prelude.{List, [], ◌∷◌, ℕ, ◌+◌, None, Option, Some}
+use Rattle.deflist.specs.declared.Flat.{Flat}
 use Rattle.deflist.specs.declared.Counts.{Counts}
-use Rattle.table.specs.declared.Place.{Place}
-use Rattle.table.specs.declared.Place.TheVariants.{At, Nothing}
 use Rattle.parameters.specs.declared.DefParamIndices.{DefParamIndices}
 use Rattle.parameters.specs.declared.Counted.{Counted}
 use Rattle.parameters.specs.declared.Range.{Range}
@@ -23,9 +20,9 @@ abbrev pub pos_or_named : DefParamIndices → Range
 pos_or_named i = range i.num_positional_only i.num_positional
 
 -- the range of a place; if there is none, the empty range at n
-abbrev pub place_range : Place → ℕ → Range
-place_range (At i) n = range i (i + 1)
-place_range Nothing n = range n n
+abbrev pub place_range : Option ℕ → ℕ → Range
+place_range (Some i) n = range i (i + 1)
+place_range None n = range n n
 
 abbrev pub args_range : DefParamIndices → Range
 args_range i = place_range i.args i.num_positional
@@ -46,9 +43,9 @@ values_of c =
     (ends (named_only c.indices c.flat) (ends (kwargs_range c.indices c.flat) (c.flat ∷ [])))))
 
 -- DefParamIndices and the flat count, from what unpack has counted
-abbrev pub place_of : FlatPlace → Place
-place_of (AtFlat i) = At i.0
-place_of NoFlat = Nothing
+abbrev pub place_of : Option Flat → Option ℕ
+place_of (Some i) = Some i.0
+place_of None = None
 
 unfoldable pub counted_of : Counts → Counted
 counted_of c =

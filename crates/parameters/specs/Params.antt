@@ -1,5 +1,7 @@
 -- The parameters job: what it answers, and the mode buffer afterwards, for any bytes. These are definitions.
-use Rattle.std.specs.Prelude.{List, [], ◌∷◌, ◌++◌, ℕ, ◌≤◌, length, drop, leb}
+use Rattle.std.specs.Prelude.{List, [], ◌∷◌, ◌++◌, ℕ, ◌≤◌, length, drop, leb, Err, Ok, Result}
+use Rattle.table.specs.declared.Refusal.{Refusal}
+use Rattle.parameters.specs.declared.Counted.{Counted}
 use Rattle.fields.specs.Choice.{if'}
 use Rattle.forest.specs.Forest.{Node}
 use Rattle.table.specs.Numbers.{short_buffer, duplicated_parameter}
@@ -11,13 +13,11 @@ use Rattle.deflist.specs.Unpack as def
 use Rattle.deflist.specs.Limited.{limited}
 use Rattle.deflist.specs.Told.{internal_error}
 use Rattle.parameters.specs.Indices.{values_of, counted_of}
-use Rattle.parameters.specs.declared.Unpacked.{Unpacked}
-use Rattle.parameters.specs.declared.Unpacked.TheVariants.{Accepted, Refused}
 
 -- what the answers of code mean: the five ranges and the flat count, or a refusal's number and what it carries
-abbrev pub unpacked : Unpacked → Answer
-unpacked (Accepted c) = accepted (values_of c)
-unpacked (Refused r) = refusal r
+abbrev pub unpacked : Result Counted Refusal → Answer
+unpacked (Ok c) = accepted (values_of c)
+unpacked (Err r) = refusal r
 
 -- the answer for an outcome
 abbrev pub answer_of : def.Outcome → Answer

@@ -1,6 +1,7 @@
 -- What code computes while it counts a list and writes its modes. Only contracts of private functions use these
 -- definitions.
-use Rattle.std.specs.Prelude.{◌≡◌, Bool, true, false, List, [], ◌∷◌, ◌++◌, ℕ, zero, suc, ◌≤◌, ◌<◌, ◌^◌, length}
+use Rattle.std.specs.Prelude.{◌≡◌, Bool, true, false, List, [], ◌∷◌, ◌++◌, ℕ, zero, suc, ◌≤◌, ◌<◌, ◌^◌, length, Err, None, Ok, Option, Result, Some}
+use Rattle.deflist.specs.declared.Counts.{Counts}
 use Rattle.std.proofs.lemmas.List.Edits.{sets}
 use Rattle.forest.specs.Forest.{Node, forest}
 use Rattle.deflist.specs.Written.{Param, params_in}
@@ -10,29 +11,23 @@ use Rattle.deflist.specs.Reading.{NotPast, Bounded}
 use Rattle.deflist.specs.declared.Fault.{Fault}
 use Rattle.deflist.specs.declared.State.{State}
 use Rattle.deflist.specs.declared.State.TheVariants.{SeenSlash}
-use Rattle.deflist.specs.declared.Judged.{Judged}
-use Rattle.deflist.specs.declared.Judged.TheVariants.{Accepted, Refused}
-use Rattle.forest.specs.declared.Found.{Found}
-use Rattle.forest.specs.declared.Found.TheVariants.{At, Nothing}
 use Rattle.table.specs.Answer.{Answer, accepted, refused, span_values, earlier_values}
-use Rattle.table.specs.declared.Place.{Place}
-use Rattle.table.specs.declared.Place.TheVariants.{At as AtPlace, Nothing as NoPlace}
 use Rattle.parameters.specs.Indices.{values_of, counted_of}
 use Rattle.parameters.specs.Params.{list_answer, afterwards}
 
 -- whether unpack's result is a refusal, and the state in which an accepted list begins
-abbrev pub is_refused : Judged → Bool
-is_refused (Accepted c) = false
-is_refused (Refused f) = true
+abbrev pub is_refused : Result Counts Fault → Bool
+is_refused (Ok c) = false
+is_refused (Err f) = true
 
-abbrev pub first_of : Judged → State
-first_of (Accepted c) = first_state c.num_positional_only
-first_of (Refused f) = SeenSlash
+abbrev pub first_of : Result Counts Fault → State
+first_of (Ok c) = first_state c.num_positional_only
+first_of (Err f) = SeenSlash
 
 -- the earlier node of a refusal at a parameter, as the table has it
-abbrev pub earlier_place : Found → Place
-earlier_place (At i) = AtPlace i
-earlier_place Nothing = NoPlace
+abbrev pub earlier_place : Option ℕ → Option ℕ
+earlier_place (Some i) = Some i
+earlier_place None = None
 
 -- the answer of the job for such a refusal, and that its numbers fit 32 bits
 abbrev pub fault_answer : Fault → Answer
@@ -42,13 +37,13 @@ abbrev pub SmallFault : Fault → Type 0
 SmallFault f = (f.node < 2 ^ 32) × NotPast 4294967295 f.earlier
 
 -- the same for a result of unpack
-abbrev pub judged_answer : Judged → Answer
-judged_answer (Accepted c) = accepted (values_of (counted_of c))
-judged_answer (Refused f) = fault_answer f
+abbrev pub judged_answer : Result Counts Fault → Answer
+judged_answer (Ok c) = accepted (values_of (counted_of c))
+judged_answer (Err f) = fault_answer f
 
-abbrev pub Small : Judged → Type 0
-Small (Accepted c) = Bounded 4294967295 4294967295 c
-Small (Refused f) = SmallFault f
+abbrev pub Small : Result Counts Fault → Type 0
+Small (Ok c) = Bounded 4294967295 4294967295 c
+Small (Err f) = SmallFault f
 
 -- the mode of a parameter as a byte: 0 for a mark
 abbrev pub first_mode : List ℕ → ℕ
@@ -72,7 +67,7 @@ pub record Modes (kids : List ℕ) (s : State) (ms ms' : List ℕ) : Type 0 wher
   pub wrote : (names : List ℕ) (i : ℕ) → ms' ≡ sets ms 0 (modes_from s (params_in names (forest i kids)))
 
 -- the same for the result of unpack: a refusal leaves the buffer
-pub record Kept (kids : List ℕ) (j : Judged) (ms ms' : List ℕ) : Type 0 where
+pub record Kept (kids : List ℕ) (j : Result Counts Fault) (ms ms' : List ℕ) : Type 0 where
   pub left : is_refused j ≡ true → ms' ≡ ms
   pub wrote : is_refused j ≡ false → Modes kids (first_of j) ms ms'
 

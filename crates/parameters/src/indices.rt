@@ -7,21 +7,20 @@ ghost use Rattle.std.specs.Prelude.{◌≡◌};
 ghost use Rattle.parameters.specs.Indices.{pos_only, pos_or_named, args_range, named_only, kwargs_range, place_range};
 
 use crate::{DefParamIndices, Range};
-use table::Place;
 
 // The range of a place; if there is no place, the empty range at `none`.
-fn place_range(place: Place, none: usize) -> Range
+fn place_range(place: Option<u32>, none: usize) -> Range
     ensures { result ≡ place_range place none }
 {
     match place {
-        Place::At(i) => {
+        Some(i) => {
             let from = i as usize;
             Range {
                 from,
                 upto: from + 1,
             }
         }
-        Place::Nothing => Range {
+        None => Range {
             from: none,
             upto: none,
         },

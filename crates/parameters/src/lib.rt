@@ -11,7 +11,7 @@ pub mod indices;
 
 ghost use Rattle.std.specs.Prelude.{◌≡◌, true, ◌+◌, ◌<◌, ◌^◌, length};
 ghost use Rattle.std.proofs.lemmas.List.Edits.{sets};
-ghost use Rattle.forest.specs.Forest.{node_of, forest};
+ghost use Rattle.forest.specs.Forest.{node_of};
 ghost use Rattle.table.specs.Answer.{refusal as refusal_of};
 ghost use Rattle.table.specs.Check.{Headed};
 ghost use Rattle.deflist.specs.Written.{written};
@@ -24,17 +24,17 @@ ghost use Rattle.parameters.specs.Writing.{judged_answer, Small};
 ghost use Rattle.parameters.specs.Writing.{mode_byte, mode_in};
 ghost use Rattle.parameters.specs.Writing.{AtMost, Modes, Kept, Leaves};
 
-use deflist::{Counts, Fault, Flat, FlatPlace, Judged, Kind, State, entry, list, states};
-use forest::Found;
-use table::{Checked, Place, Refusal, Wanted, numbers};
+use deflist::{Counts, Fault, Flat, Kind, Params, State, entry, list, states};
+use forest::Nodes;
+use table::{Refusal, Wanted, numbers};
 
 // The sizes and indices that split the flat list into its parts, as the crate has them.
 #[derive(Clone, Copy)]
 pub struct DefParamIndices {
     pub num_positional: u32,
     pub num_positional_only: u32,
-    pub args: Place,
-    pub kwargs: Place,
+    pub args: Option<u32>,
+    pub kwargs: Option<u32>,
 }
 
 // DefParamIndices and the flat count.
@@ -51,38 +51,28 @@ pub struct Range {
     pub upto: usize,
 }
 
-// The answer of the job.
-#[derive(Clone, Copy)]
-pub enum Unpacked {
-    Accepted(Counted),
-    Refused(Refusal),
-}
-
 // Checks the parameter list of the def or lambda at a node. Returns its ranges and flat count, with the modes at the
 // front of the buffer; or a refusal: 1 to 4, 6, 7, 10 to 19.
-pub fn params(table: &[u8], names: &[u8], node: usize, modes: &mut [u8]) -> Unpacked
+pub fn params(table: &[u8], names: &[u8], node: usize, modes: &mut [u8]) -> Result<Counted, Refusal>
     ensures result_value { unpacked result ≡
         params_of table.now names.now node (length modes.old) }
     ensures modes_after { modes.new ≡
         modes_after table.now names.now node modes.old }
 {
-    let entered = table::enter(table, names, node, Wanted::Parameters);
-    if let Checked::Refused(why) = entered {
-        return Unpacked::Refused(why);
-    }
+    table::enter(table, names, node, Wanted::Parameters)?;
     unpack_into(names, table::stretch(table, node), node as u32, modes)
 }
 
 // 7, then the answer for the list of the node whose subtree is the stretch. The modes are written once the list is
 // accepted.
-fn unpack_into(names: &[u8], t: &[u8], node: u32, modes: &mut [u8]) -> Unpacked
+fn unpack_into(names: &[u8], t: &[u8], node: u32, modes: &mut [u8]) -> Result<Counted, Refusal>
     requires { Headed node t.now }
     ensures { Leaves (node_of node t.now) (written names.now node t.now)
         modes.old (unpacked result) modes.new }
 {
     let kids = deflist::children(t);
     if list::has_more(kids, modes.len()) {
-        return Unpacked::Refused(Refusal::Bare(numbers::SHORT_BUFFER));
+        return Err(Refusal::Bare(numbers::SHORT_BUFFER));
     }
     let judged = deflist::judge(names, t, node);
     write_accepted(kids, judged, modes);
@@ -90,7 +80,7 @@ fn unpack_into(names: &[u8], t: &[u8], node: u32, modes: &mut [u8]) -> Unpacked
 }
 
 // Writes the modes of a list that unpack accepts.
-fn write_accepted(kids: &[u8], judged: Judged, modes: &mut [u8])
+fn write_accepted(kids: &[u8], judged: Result<Counts, Fault>, modes: &mut [u8])
     requires { AtMost kids.now (length modes.old) }
     ensures { Kept kids.now judged modes.old modes.new }
 {
@@ -101,36 +91,36 @@ fn write_accepted(kids: &[u8], judged: Judged, modes: &mut [u8])
 }
 
 // Whether unpack refuses a list.
-fn is_refused(judged: Judged) -> bool
+fn is_refused(judged: Result<Counts, Fault>) -> bool
     ensures { result ≡ is_refused judged }
 {
     match judged {
-        Judged::Accepted(_) => false,
-        Judged::Refused(_) => true,
+        Ok(_) => false,
+        Err(_) => true,
     }
 }
 
 // The state in which an accepted list begins.
-fn first_of(judged: Judged) -> State
+fn first_of(judged: Result<Counts, Fault>) -> State
     ensures { result ≡ first_of judged }
 {
     match judged {
-        Judged::Accepted(c) => {
+        Ok(c) => {
             let only = c.num_positional_only;
             states::first_state(only)
         }
-        Judged::Refused(_) => State::SeenSlash,
+        Err(_) => State::SeenSlash,
     }
 }
 
 // The answer of the job for a result of unpack.
-fn answer(judged: Judged) -> Unpacked
+fn answer(judged: Result<Counts, Fault>) -> Result<Counted, Refusal>
     requires { Small judged }
     ensures { unpacked result ≡ judged_answer judged }
 {
     match judged {
-        Judged::Accepted(c) => Unpacked::Accepted(numbered(c)),
-        Judged::Refused(f) => Unpacked::Refused(refusal(f)),
+        Ok(c) => Ok(numbered(c)),
+        Err(f) => Err(refusal(f)),
     }
 }
 
@@ -179,15 +169,14 @@ fn write_modes(kids: &[u8], first: State, modes: &mut [u8])
     requires { AtMost kids.now (length modes.old) }
     ensures { Modes kids.now first modes.old modes.new }
 {
-    let mut left = kids;
     let mut state = first;
     let mut flat = Flat(0);
-    while entry::listed(left) {
+    for (_, left) in (Params {
+        nodes: Nodes { at: 0, left: kids },
+    }) {
         let kind = entry::kind_of(left);
         flat = put(modes, flat, mode(state, kind));
         state = states::next_state(state, kind);
-        let e = forest::span(left);
-        left = &left[e..];
     }
 }
 
@@ -199,13 +188,13 @@ fn number(n: Flat) -> u32
     n.0 as u32
 }
 
-fn place_of(p: FlatPlace) -> Place
+fn place_of(p: Option<Flat>) -> Option<u32>
     requires { PlaceBelow 4294967295 p }
     ensures { result ≡ place_of p }
 {
     match p {
-        FlatPlace::AtFlat(i) => Place::At(number(i)),
-        FlatPlace::NoFlat => Place::Nothing,
+        Some(i) => Some(number(i)),
+        None => None,
     }
 }
 
@@ -231,13 +220,13 @@ fn numbered(c: Counts) -> Counted
 }
 
 // The earlier node of a refusal, as the table has it.
-fn earlier_place(found: Found) -> Place
+fn earlier_place(found: Option<usize>) -> Option<u32>
     requires { NotPast 4294967295 found }
     ensures { result ≡ earlier_place found }
 {
     match found {
-        Found::At(i) => Place::At(i as u32),
-        Found::Nothing => Place::Nothing,
+        Some(i) => Some(i as u32),
+        None => None,
     }
 }
 

@@ -14,7 +14,7 @@ use Rattle.dialect.specs.declared.Edition.{Edition}
 use Rattle.forest.specs.Forest.{Tree, node, Forest, none, ◌then◌}
 use Rattle.table.specs.Check.{wants}
 use Rattle.table.specs.declared.Wanted.TheVariants.{Parameters, Call, Assignment}
-use Rattle.errors.specs.declared.Err.{Err}
+use Rattle.errors.specs.declared.Finding.{Finding}
 use Rattle.errors.specs.Errors.{place_words, is_list_error, without_lists}
 use Rattle.audit.specs.declared.Role.{Role}
 use Rattle.audit.specs.declared.Role.TheVariants.{AsTarget, AsType, Plain}
@@ -101,7 +101,7 @@ unfoldable rows_kept : List (List ℕ) → List (List ℕ)
 rows_kept [] = []
 rows_kept (x ∷ xs) = if' (is_list_error (get_or x 0 0)) (λ _. rows_kept xs) (λ _. x ∷ rows_kept xs)
 
-own_read : (es : List Err) → read (without_lists es) ≡ rows_kept (read es)
+own_read : (es : List Finding) → read (without_lists es) ≡ rows_kept (read es)
 unfolding read without_lists rows_kept
 own_read [] = refl
 own_read (e ∷ es) = go (is_list_error e.number) (own_read es)
@@ -112,5 +112,5 @@ own_read (e ∷ es) = go (is_list_error e.number) (own_read es)
     go true h = h
     go false h = ap (λ (xs : List (List ℕ)). place_words e ∷ xs) h
 
-pub own_same : (es fs : List Err) → Reads es fs → Reads (without_lists es) (without_lists fs)
+pub own_same : (es fs : List Finding) → Reads es fs → Reads (without_lists es) (without_lists fs)
 own_same es fs h = own_read es ∙ ap rows_kept h ∙ sym (own_read fs)

@@ -3,6 +3,7 @@
 -- and names; the node of an earlier argument of the same name may differ, but it is not among the words that are read.
 -- The place of 22 is the name: it begins at the record's source position and ends after the length of the name. The
 -- induction is on the list of pairs (`run_same`). Cite `call_same`. Assumes nothing.
+use Rattle.std.specs.Prelude.{None, Option, Some, ℕ}
 use mathlib.Core.Path.{◌≡◌, refl, ap}
 use mathlib.Core.Bool.{Bool, true, false}
 use mathlib.Core.List.{List, [], ◌∷◌, ◌++◌}
@@ -13,8 +14,6 @@ use Rattle.fields.specs.Choice.{if'}
 use Rattle.fields.proofs.Basics.{never}
 use Rattle.forest.specs.Forest.{Node, Tree, node, Forest, none, ◌then◌}
 use Rattle.forest.specs.Names.{name_of}
-use Rattle.forest.specs.declared.Found.{Found}
-use Rattle.forest.specs.declared.Found.TheVariants.{At, Nothing}
 use Rattle.table.specs.Answer.{refused_at}
 use Rattle.table.specs.Numbers.{named_after_star, repeated_named}
 use Rattle.arguments.specs.Written.{Name, Argument, node_in, kind_in, kind_at, argument, argument_of, arguments_in}
@@ -154,24 +153,24 @@ module _ (p : Pair) (next more : Unit {0} → Outcome) (on_same : Same (next tt)
   checked_same (Broken n) = at_same p n
   checked_same (Repeated i) = at_name_same p repeated_named i i
 
-  named_same : (past : Bool) (f g : Found) → is_at f ≡ is_at g
+  named_same : (past : Bool) (f g : Option ℕ) → is_at f ≡ is_at g
       → Same (unless_broken (if' past (λ _. Broken named_after_star) (λ _. new_name f)) p.one next)
       (unless_broken (if' past (λ _. Broken named_after_star) (λ _. new_name g)) p.other more)
   named_same true f g e = at_same p named_after_star
-  named_same false (At i) (At j) e = at_name_same p repeated_named i j
-  named_same false (At i) Nothing e = never (cc)
-  named_same false Nothing (At j) e = never (cc)
-  named_same false Nothing Nothing e = on_same
+  named_same false (Some i) (Some j) e = at_name_same p repeated_named i j
+  named_same false (Some i) None e = never (cc)
+  named_same false None (Some j) e = never (cc)
+  named_same false None None e = on_same
 
   turn_same : (bs : List Pair) (stage : ArgsStage) (k : Kind) (n : Name)
       → Same (unless_broken (check (one_list bs) stage (argument k p.one n)) p.one next)
       (unless_broken (check (other_list bs) stage (argument k p.other n)) p.other more)
   unfolding check repeats
-  turn_same bs stage Positional n = checked_same (rule stage Nothing Positional)
+  turn_same bs stage Positional n = checked_same (rule stage None Positional)
   turn_same bs stage Named n =
       named_same (past_named stage) (first_same n (one_list bs)) (first_same n (other_list bs)) (earlier_same n bs)
-  turn_same bs stage Args n = checked_same (rule stage Nothing Args)
-  turn_same bs stage KwArgs n = checked_same (rule stage Nothing KwArgs)
+  turn_same bs stage Args n = checked_same (rule stage None Args)
+  turn_same bs stage KwArgs n = checked_same (rule stage None KwArgs)
 
 run_same : (bs : List Pair) (w : Walk) (ps : List Pair)
     → Same (run (one_list bs) w (one_list ps)) (run (other_list bs) w (other_list ps))

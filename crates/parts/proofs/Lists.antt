@@ -3,6 +3,8 @@
 -- on both; the node of an earlier parameter of the same name may differ, but it is not among the words that are read.
 -- The induction is on the list of pairs (`run_same`). Cite `list_same` for the one error of a list, and `marks_same`
 -- for its `*` and `/` markers. Assumes nothing.
+use Rattle.std.specs.Prelude.{None, Option, Some, ℕ}
+use Rattle.deflist.specs.declared.Written.{Written}
 use mathlib.Core.Path.{◌≡◌, refl, ap}
 use mathlib.Core.Bool.{Bool, true, false, not}
 use mathlib.Core.List.{List, [], ◌∷◌, ◌++◌}
@@ -14,8 +16,6 @@ use Rattle.fields.proofs.Basics.{never}
 use Rattle.dialect.specs.declared.Dialect.{Dialect}
 use Rattle.forest.specs.Forest.{Node, node, Forest, none, ◌then◌}
 use Rattle.forest.specs.Names.{name_of}
-use Rattle.forest.specs.declared.Found.{Found}
-use Rattle.forest.specs.declared.Found.TheVariants.{At, Nothing}
 use Rattle.soundness.specs.Kinds.{parameter, class_of}
 use Rattle.table.specs.Numbers.{slash_first, star_last, no_normal_after_star, too_many_parameters}
 use Rattle.deflist.specs.Written.{Name, Param, node_in, kind_in, kind_at, param, param_of, params_in}
@@ -31,8 +31,6 @@ use Rattle.deflist.specs.declared.Check.{Check}
 use Rattle.deflist.specs.declared.Check.TheVariants.{Fine, Broken, Repeated}
 use Rattle.deflist.specs.declared.Counts.{Counts}
 use Rattle.deflist.specs.declared.Unpacking.{Unpacking}
-use Rattle.deflist.specs.declared.WrittenPlace.{WrittenPlace}
-use Rattle.deflist.specs.declared.WrittenPlace.TheVariants.{AtWritten, NoWritten}
 use Rattle.deflist.proofs.Walking.{searches}
 use Rattle.errors.specs.Errors.{err_at, unless}
 use Rattle.validate.specs.Params.{is_mark, not_permitted, permits, every_mark, marks, unpack_error}
@@ -159,15 +157,15 @@ module _ {r s : Node} (h : SamePlace r s) (next then' : Unpacking → Outcome)
   after_same (again i) = place_at_lem h _
   after_same (broken e) = place_at_lem h _
 
-  checked_same : (f g : Found) → is_at f ≡ is_at g → (c : Check) (x : Step)
+  checked_same : (f g : Option ℕ) → is_at f ≡ is_at g → (c : Check) (x : Step)
       → Same (after (unless_broken (firstly f c) (λ _. x)) r next)
       (after (unless_broken (firstly g c) (λ _. x)) s then')
-  checked_same (At i) (At j) e c x = place_at_lem h _
-  checked_same (At i) Nothing e c x = never (cc)
-  checked_same Nothing (At j) e c x = never (cc)
-  checked_same Nothing Nothing e Fine x = after_same x
-  checked_same Nothing Nothing e (Broken n) x = place_at_lem h n
-  checked_same Nothing Nothing e (Repeated i) x = place_at_lem h _
+  checked_same (Some i) (Some j) e c x = place_at_lem h _
+  checked_same (Some i) None e c x = never (cc)
+  checked_same None (Some j) e c x = never (cc)
+  checked_same None None e Fine x = after_same x
+  checked_same None None e (Broken n) x = place_at_lem h n
+  checked_same None None e (Repeated i) x = place_at_lem h _
 
   turn_same : (bs : List Pair) (u : Unpacking) (k : Kind) (n : Name)
       → Same (after (step (one_list bs) u (param k r n)) (node_in (param k r n)) next)
@@ -177,10 +175,10 @@ module _ {r s : Node} (h : SamePlace r s) (next then' : Unpacking → Outcome)
       (checked_same (first_same n (one_list bs)) (first_same n (other_list bs)) (earlier_same n bs)
       (rule u.state u.seen_optional (Normal d)) (keep u (written_at (length bs)) (Normal d)))
   turn_same bs u NoArgs n = rw (made_length one_of bs, made_length other_of bs)
-      (checked_same Nothing Nothing refl (rule u.state u.seen_optional NoArgs)
+      (checked_same None None refl (rule u.state u.seen_optional NoArgs)
       (keep u (written_at (length bs)) NoArgs))
   turn_same bs u Slash n = rw (made_length one_of bs, made_length other_of bs)
-      (checked_same Nothing Nothing refl (rule u.state u.seen_optional Slash)
+      (checked_same None None refl (rule u.state u.seen_optional Slash)
       (keep u (written_at (length bs)) Slash))
   turn_same bs u Args n = rw (made_length one_of bs, made_length other_of bs)
       (checked_same (first_same n (one_list bs)) (first_same n (other_list bs)) (earlier_same n bs)
@@ -206,11 +204,11 @@ star_same (p ∷ []) c =
     rw (node_made p.kind p.one p.name, node_made p.kind p.other p.name) (place_at_lem p.place star_last)
 star_same (p ∷ q ∷ ps) c = next_same q c q.kind
 
-finish_same : (ps : List Pair) (star : WrittenPlace) (c : Counts)
+finish_same : (ps : List Pair) (star : Option Written) (c : Counts)
     → Same (finish (one_list ps) star c) (finish (other_list ps) star c)
 unfolding finish
-finish_same ps NoWritten c = refl
-finish_same ps (AtWritten i) c =
+finish_same ps None c = refl
+finish_same ps (Some i) c =
     rw (made_drop one_of i.0 ps, made_drop other_of i.0 ps) (star_same (drop i.0 ps) c)
 
 run_same : (bs : List Pair) (u : Unpacking) (ps : List Pair)

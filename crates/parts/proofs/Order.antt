@@ -7,7 +7,7 @@ use mathlib.Core.List.{List, [], ◌∷◌, ◌++◌}
 use Prim.Native.Nat.{ℕ, ◌+◌}
 use native.Mathlib.Omega.{arith}
 use Rattle.fields.specs.Choice.{if'}
-use Rattle.errors.specs.declared.Err.{Err}
+use Rattle.errors.specs.declared.Finding.{Finding}
 use Rattle.parts.specs.Parts.{read, how_many}
 use Rattle.parts.proofs.Read.{read_append}
 
@@ -22,8 +22,8 @@ many_append test (x ∷ xs) ys =
     omega (arith, rest)
 
 -- the number of errors whose words pass a test
-abbrev pub tally : (List ℕ → Bool) → List Err → ℕ
+abbrev pub tally : (List ℕ → Bool) → List Finding → ℕ
 tally test es = how_many test (read es)
 
-pub tally_append : (test : List ℕ → Bool) (es fs : List Err) → tally test (es ++ fs) ≡ tally test es + tally test fs
+pub tally_append : (test : List ℕ → Bool) (es fs : List Finding) → tally test (es ++ fs) ≡ tally test es + tally test fs
 tally_append test es fs = rw (read_append es fs) (many_append test (read es) (read fs))

@@ -11,28 +11,28 @@ use Rattle.fields.specs.Choice.{if'}
 use Rattle.fields.proofs.Basics.{never}
 use Rattle.forest.specs.Forest.{Node}
 use Rattle.table.specs.Answer.{Answer, accepted, refused, and_then, refused_at}
-use Rattle.errors.specs.declared.Err.{Err}
+use Rattle.errors.specs.declared.Finding.{Finding}
 use Rattle.errors.specs.Errors.{place_words, err_at, unless}
 use Rattle.audit.specs.Refusals.{answer_errors}
 use Rattle.parts.specs.Parts.{SameRecord, read}
 
 -- two lists of errors with the same words, and two answers
-abbrev pub Reads : List Err → List Err → Type 0
+abbrev pub Reads : List Finding → List Finding → Type 0
 Reads es fs = read es ≡ read fs
 
 abbrev pub Answers : Answer → Answer → Type 0
 Answers a b = Reads (answer_errors a) (answer_errors b)
 
 -- LAW: joined lists, and lists chosen by equal tests
-pub read_append : (es fs : List Err) → read (es ++ fs) ≡ read es ++ read fs
+pub read_append : (es fs : List Finding) → read (es ++ fs) ≡ read es ++ read fs
 unfolding read
 read_append [] fs = refl
 read_append (e ∷ es) fs = ap (λ (xs : List (List ℕ)). place_words e ∷ xs) (read_append es fs)
 
-pub reads_both : (es fs gs hs : List Err) → Reads es fs → Reads gs hs → Reads (es ++ gs) (fs ++ hs)
+pub reads_both : (es fs gs hs : List Finding) → Reads es fs → Reads gs hs → Reads (es ++ gs) (fs ++ hs)
 reads_both es fs gs hs p q = read_append es gs ∙ rw (p, q) (sym (read_append fs hs))
 
-pub reads_if : (b c : Bool) → b ≡ c → (x y v w : Unit {0} → List Err) → Reads (x tt) (v tt) → Reads (y tt) (w tt)
+pub reads_if : (b c : Bool) → b ≡ c → (x y v w : Unit {0} → List Finding) → Reads (x tt) (v tt) → Reads (y tt) (w tt)
     → Reads (if' b x y) (if' c v w)
 reads_if true true e x y v w p q = p
 reads_if true false e x y v w p q = never (cc)

@@ -15,7 +15,7 @@ use Rattle.dialect.specs.declared.Edition.{Edition}
 use Rattle.forest.specs.Forest.{Node, node, Forest, none, ◌then◌, forest}
 use Rattle.soundness.specs.KindNumbers.{kind_statements}
 use Rattle.soundness.specs.Kinds.{kind_in, kind_of}
-use Rattle.errors.specs.declared.Err.{Err}
+use Rattle.errors.specs.declared.Finding.{Finding}
 use Rattle.errors.specs.declared.Listing.TheVariants.{Own}
 use Rattle.errors.specs.Errors.{without_lists}
 use Rattle.errors.proofs.Storing.{kept_append}
@@ -39,7 +39,7 @@ use Rattle.parts.proofs.Audits.{refusals_same, own_same}
 use Rattle.parts.proofs.Order.{many_append, tally, tally_append}
 
 -- no job fits a Statements
-no_job : (k : ℕ) → k ≡ kind_statements → (x y z : Unit {0} → List Err)
+no_job : (k : ℕ) → k ≡ kind_statements → (x y z : Unit {0} → List Finding)
     → if' (wants Parameters k) x (λ _. if' (wants Call k) y (λ _. if' (wants Assignment k) z (λ _. []))) ≡ []
 unfolding wants
 no_job k is x y z = rw is refl
@@ -103,8 +103,8 @@ module _ (d : Dialect) (names : List ℕ) where
 
 -- a list of errors with three properties: a root adds nothing; for neighbouring statements it is joined, up to order;
 -- and statements that say the same give the same words
-record Splits (errors : List ℕ → Forest → List Err) : Type 1 where
-  body : List ℕ → Forest → List Err
+record Splits (errors : List ℕ → Forest → List Finding) : Type 1 where
+  body : List ℕ → Forest → List Finding
   none_body : (names : List ℕ) → body names none ≡ []
   root_body : (names : List ℕ) (r : Node) (ts : Forest) → r.kind ≡ kind_statements
       → errors names (under r ts) ≡ body names ts
@@ -113,13 +113,13 @@ record Splits (errors : List ℕ → Forest → List Err) : Type 1 where
   same_body : (names others : List ℕ) (ts us : Forest) → SameTrees names others ts us
       → Reads (body names ts) (body others us)
 
-module _ {errors : List ℕ → Forest → List Err} (s : Splits errors) (names : List ℕ) (test : List ℕ → Bool) where
+module _ {errors : List ℕ → Forest → List Finding} (s : Splits errors) (names : List ℕ) (test : List ℕ → Bool) where
   split_body : (ps : List Part) → Kept names ps
       → tally test (s.body names (joined ps)) ≡ how_many test (read_in_turn errors ps)
   unfolding joined Kept read_in_turn how_many read
   split_body [] kept-all = rw (s.none_body names) refl
   split_body (p ∷ ps) (is, (same, rest)) =
-      let own : List Err = errors p.names (under p.root p.trees) in
+      let own : List Finding = errors p.names (under p.root p.trees) in
       let whole : tally test (s.body names (p.cut beside joined ps))
       ≡ tally test (s.body names p.cut) + tally test (s.body names (joined ps))
       = s.beside_body test names p.cut (joined ps) in
@@ -134,20 +134,20 @@ module _ {errors : List ℕ → Forest → List Err} (s : Splits errors) (names 
       whole ∙ rw (part, others) (sym both)
 
 -- four lists, joined in either order
-four : (test : List ℕ → Bool) (a b x y : List Err)
+four : (test : List ℕ → Bool) (a b x y : List Finding)
     → tally test ((a ++ b) ++ (x ++ y)) ≡ tally test (a ++ x) + tally test (b ++ y)
 four test a b x y =
-    let joins : (es fs : List Err) → tally test (es ++ fs) ≡ tally test es + tally test fs = tally_append test in
+    let joins : (es fs : List Finding) → tally test (es ++ fs) ≡ tally test es + tally test fs = tally_append test in
     omega (arith, joins (a ++ b) (x ++ y), joins a b, joins x y, joins a x, joins b y)
 
 -- the same for four lists without the errors of parameter lists, followed by two more
-six : (test : List ℕ → Bool) (a b x y m n : List Err)
+six : (test : List ℕ → Bool) (a b x y m n : List Finding)
     → tally test (without_lists ((a ++ b) ++ (x ++ y)) ++ (m ++ n))
     ≡ tally test (without_lists (a ++ x) ++ m) + tally test (without_lists (b ++ y) ++ n)
 six test a b x y m n =
-    let w : List Err → List Err = without_lists in
-    let joins : (es fs : List Err) → tally test (es ++ fs) ≡ tally test es + tally test fs = tally_append test in
-    let owns : (es fs : List Err) → tally test (w (es ++ fs)) ≡ tally test (w es) + tally test (w fs)
+    let w : List Finding → List Finding = without_lists in
+    let joins : (es fs : List Finding) → tally test (es ++ fs) ≡ tally test es + tally test fs = tally_append test in
+    let owns : (es fs : List Finding) → tally test (w (es ++ fs)) ≡ tally test (w es) + tally test (w fs)
     = λ es fs. rw (kept_append Own es fs) (joins (w es) (w fs)) in
     omega (
       arith,
@@ -164,7 +164,7 @@ six test a b x y m n =
 
 module _ (d : Dialect) where
   -- the module pass
-  abbrev module_body : List ℕ → Forest → List Err
+  abbrev module_body : List ℕ → Forest → List Finding
   module_body names ts = visit_stmt d names at_top ts ++ visit_expr d names ts
 
   module_beside : (test : List ℕ → Bool) (names : List ℕ) (ts us : Forest)
@@ -199,7 +199,7 @@ module _ (d : Dialect) where
 
 module _ (d : Dialect) (edition : Edition) where
   -- the audit
-  abbrev audit_body : List ℕ → Forest → List Err
+  abbrev audit_body : List ℕ → Forest → List Finding
   audit_body names ts = without_lists (module_body d names ts) ++ refusals_in d edition names ts
 
   audit_beside : (test : List ℕ → Bool) (names : List ℕ) (ts us : Forest)

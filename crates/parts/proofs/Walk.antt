@@ -14,7 +14,7 @@ use Rattle.soundness.specs.KindNumbers.{kind_ellipsis, kind_lambda}
 use Rattle.soundness.specs.Kinds.{statement, class_of}
 use Rattle.table.specs.Numbers.{def_not_permitted, load_not_at_top, load_not_permitted, ellipsis_not_permitted}
 use Rattle.table.specs.Numbers.{lambda_not_permitted}
-use Rattle.errors.specs.declared.Err.{Err}
+use Rattle.errors.specs.declared.Finding.{Finding}
 use Rattle.validate.specs.Params.{validate_params, with_params}
 use Rattle.validate.specs.Module.{in_def, arm_of, on_arm, f, visit_stmt, expr_errors, expr, visit_expr}
 use Rattle.validate.specs.declared.Mark.TheVariants.{Star, Slash}
@@ -46,7 +46,7 @@ module _ (d : Dialect) (names others : List ℕ) where
 
   -- a statement by its arm
   module _ (p : Standing) {r s : Node} (ks ls : Forest) (h : SameRecord names others r s)
-      (below : SameTrees names others ks ls) (visit other : Standing → List Err)
+      (below : SameTrees names others ks ls) (visit other : Standing → List Finding)
       (inside : (q : Standing) → Reads (visit q) (other q)) where
     arm_same : (a : Arm) → Reads (on_arm d names p r ks visit a) (on_arm d others p s ls other a)
     arm_same Def =

@@ -7,7 +7,7 @@ use Rattle.dialect.specs.declared.Edition.{Edition}
 use Rattle.forest.specs.Forest.{Node, Tree, node, Forest, none, ◌then◌}
 use Rattle.forest.specs.Names.{name_of}
 use Rattle.soundness.specs.KindNumbers.{kind_statements}
-use Rattle.errors.specs.declared.Err.{Err}
+use Rattle.errors.specs.declared.Finding.{Finding}
 use Rattle.errors.specs.declared.Listing.TheVariants.{Own}
 use Rattle.errors.specs.Errors.{kept, place_words}
 use Rattle.validate.specs.Module.{validate_module}
@@ -65,16 +65,16 @@ abbrev pub under : Node → Forest → Forest
 under r ts = node r ts then none
 
 -- the list of the audit, for any trees: audit defines it for the trees of a table
-unfoldable pub audit_module : Dialect → Edition → List ℕ → Forest → List Err
+unfoldable pub audit_module : Dialect → Edition → List ℕ → Forest → List Finding
 audit_module d edition names ts = kept Own (validate_module d names ts) ++ refusals_in d edition names ts
 
 -- the words that are read of errors: number, source file, begin and end of each
-unfoldable pub read : List Err → List (List ℕ)
+unfoldable pub read : List Finding → List (List ℕ)
 read [] = []
 read (e ∷ es) = place_words e ∷ read es
 
 -- the words that are read of the errors of all parts, each in its own table, in turn
-unfoldable pub read_in_turn : (List ℕ → Forest → List Err) → List Part → List (List ℕ)
+unfoldable pub read_in_turn : (List ℕ → Forest → List Finding) → List Part → List (List ℕ)
 read_in_turn errors [] = []
 read_in_turn errors (p ∷ ps) = read (errors p.names (under p.root p.trees)) ++ read_in_turn errors ps
 

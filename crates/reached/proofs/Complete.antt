@@ -4,6 +4,7 @@
 -- star), no two fill one parameter (`apart`: by two places, by two names, or by a place and a name, which the rules
 -- forbid), and each parameter without a default is filled (`needed`). The only induction is on the arguments, for two
 -- of one name (`names_apart`). Assumes nothing.
+use Rattle.std.specs.Prelude.{None, Option, Some, ℕ}
 use mathlib.Core.Path.{◌≡◌, refl, sym, ap, ◌∙◌}
 use mathlib.Core.Bool.{Bool, true, false}
 use mathlib.Core.Logic.{◌⊎◌, inl, inr}
@@ -19,8 +20,6 @@ use Rattle.forest.specs.Forest.{Node, node_of}
 use Rattle.forest.specs.Names.{Distinct}
 use Rattle.table.specs.Answer.{accepted}
 use Rattle.table.specs.Check.{stretch_of}
-use Rattle.table.specs.declared.Place.{Place}
-use Rattle.table.specs.declared.Place.TheVariants.{At, Nothing}
 use Rattle.table.specs.declared.Wanted.TheVariants.{Call}
 use Rattle.table.proofs.Entering.{sound_entry_lem}
 use Rattle.deflist.specs.Written.{Name, Param}
@@ -129,20 +128,20 @@ module _ (t ns : List ℕ) (call def : ℕ) (list : List ℕ) (rules : Rules t n
   unfolding counted_of
   star_some k s e = go (ltb k c.num_positional.0) (place_of c.args) refl e
     where
-      go : (b : Bool) (x : Place) → place_of c.args ≡ x → if' b (λ _. Fills k) (λ _. collected x) ≡ Nowhere → ⊥
+      go : (b : Bool) (x : Option ℕ) → place_of c.args ≡ x → if' b (λ _. Fills k) (λ _. collected x) ≡ Nowhere → ⊥
       go true x f e = never (cc)
-      go false (At j) f e = never (cc)
-      go false Nothing f e = (reaching.st ps c counted).some_args s.index (within fs s.index s.param s.there)
+      go false (Some j) f e = never (cc)
+      go false None f e = (reaching.st ps c counted).some_args s.index (within fs s.index s.param s.there)
           (sym (mode_at_lem ps s.index s.param s.there) ∙ s.is) f
 
-  kwargs_some : (q : Place) → Star fs mode_kwargs → by_name q d.kwargs ≡ Nowhere → ⊥
+  kwargs_some : (q : Option ℕ) → Star fs mode_kwargs → by_name q d.kwargs ≡ Nowhere → ⊥
   unfolding counted_of
-  kwargs_some (At j) s e = never (cc)
-  kwargs_some Nothing s e = go (place_of c.kwargs) refl e
+  kwargs_some (Some j) s e = never (cc)
+  kwargs_some None s e = go (place_of c.kwargs) refl e
     where
-      go : (x : Place) → place_of c.kwargs ≡ x → collected x ≡ Nowhere → ⊥
-      go (At j) f e = never (cc)
-      go Nothing f e = (reaching.st ps c counted).some_kwargs s.index (within fs s.index s.param s.there)
+      go : (x : Option ℕ) → place_of c.kwargs ≡ x → collected x ≡ Nowhere → ⊥
+      go (Some j) f e = never (cc)
+      go None f e = (reaching.st ps c counted).some_kwargs s.index (within fs s.index s.param s.there)
           (sym (mode_at_lem ps s.index s.param s.there) ∙ s.is) f
 
   somewhere : (k : ℕ) (a : Argument) → IsAt qs k a → reaches d fs k a ≡ Nowhere → ⊥

@@ -1,6 +1,8 @@
 -- The checks before the binding give no number of 80 or more: the entry at most 7 (`early_entry`), a list of parameters
 -- less than 20 (`early_limited`), a list of arguments 20 to 24 or the 0 of an internal error (`call_numbers`). Each is
 -- shown rule by rule, then along the list. Assumes nothing.
+use Rattle.std.specs.Prelude.{None, Option, Some, ℕ}
+use Rattle.deflist.specs.declared.Flat.{Flat}
 use mathlib.Core.Path.{◌≡◌, refl}
 use mathlib.Core.Bool.{Bool, true, false}
 use mathlib.Core.Logic.{◌⊎◌, inl, inr}
@@ -11,8 +13,6 @@ use lib.ListN.{length, drop}
 use lib.Dec.{eqb, leb, ltb}
 use Rattle.fields.specs.Choice.{if'}
 use Rattle.forest.specs.Forest.{Node, forest}
-use Rattle.forest.specs.declared.Found.{Found}
-use Rattle.forest.specs.declared.Found.TheVariants.{At, Nothing}
 use Rattle.soundness.specs.Sound.{first_unsound}
 use Rattle.table.specs.Numbers.{wrong_node, short_buffer, unsound_record, too_deep, too_many_parameters}
 use Rattle.table.specs.Answer.{Answer, accepted, refused, and_then}
@@ -30,10 +30,6 @@ use Rattle.deflist.specs.declared.Kind.TheVariants.{Normal, NoArgs, Slash, Args,
 use Rattle.deflist.specs.declared.State.{State}
 use Rattle.deflist.specs.declared.State.TheVariants.{Normal as BeforeSlash, SeenSlash, SeenStar, SeenStarStar}
 use Rattle.deflist.specs.declared.Written.{Written}
-use Rattle.deflist.specs.declared.WrittenPlace.{WrittenPlace}
-use Rattle.deflist.specs.declared.WrittenPlace.TheVariants.{AtWritten, NoWritten}
-use Rattle.deflist.specs.declared.FlatPlace.{FlatPlace}
-use Rattle.deflist.specs.declared.FlatPlace.TheVariants.{AtFlat, NoFlat}
 use Rattle.deflist.specs.declared.Counts.{Counts}
 use Rattle.deflist.specs.declared.Unpacking.{Unpacking}
 use Rattle.arguments.specs.Written as written
@@ -63,9 +59,9 @@ early_if : (b : Bool) (n : ℕ) → n < 80 → Early (if' b (λ _. accepted []) 
 early_if true n h = tt
 early_if false n h = h
 
-early_found : (n : ℕ) (f : Found) → n < 80 → Early (none_found n f)
-early_found n (At i) h = h
-early_found n Nothing h = tt
+early_found : (n : ℕ) (f : Option ℕ) → n < 80 → Early (none_found n f)
+early_found n (Some i) h = h
+early_found n None h = tt
 
 -- 1 to 4, 6, 7
 early_check : (t ns : List ℕ) → Early (check_of t ns)
@@ -125,9 +121,9 @@ early_rule SeenSlash o KwArgs = tt
 early_rule SeenStar o KwArgs = tt
 early_rule SeenStarStar o KwArgs = omega arith
 
-early_first : (f : Found) (x : checks.Check) → EarlyCheck x → EarlyCheck (list.firstly f x)
-early_first (At i) x e = tt
-early_first Nothing x e = e
+early_first : (f : Option ℕ) (x : checks.Check) → EarlyCheck x → EarlyCheck (list.firstly f x)
+early_first (Some i) x e = tt
+early_first None x e = e
 
 abbrev EarlyStep : list.Step → Type 0
 EarlyStep (list.on u) = Unit {0}
@@ -139,20 +135,20 @@ early_keep : (u : Unpacking) (i : Written) (k : Kind) → EarlyStep (list.keep u
 early_keep u i (Normal b) = tt
 early_keep u i NoArgs = go u.index_of_star
   where
-    go : (p : WrittenPlace) → EarlyStep (list.unless_written p list.multiple_stars (list.advance u i NoArgs))
-    go NoWritten = tt
-    go (AtWritten j) = tt
+    go : (p : Option Written) → EarlyStep (list.unless_written p list.multiple_stars (list.advance u i NoArgs))
+    go None = tt
+    go (Some j) = tt
 early_keep u i Slash = tt
 early_keep u i Args = go u.counts.args
   where
-    go : (p : FlatPlace) → EarlyStep (list.unless_flat p list.multiple_args (list.advance u i Args))
-    go NoFlat = tt
-    go (AtFlat j) = tt
+    go : (p : Option Flat) → EarlyStep (list.unless_flat p list.multiple_args (list.advance u i Args))
+    go None = tt
+    go (Some j) = tt
 early_keep u i KwArgs = go u.counts.kwargs
   where
-    go : (p : FlatPlace) → EarlyStep (list.unless_flat p list.multiple_kw_args (list.advance u i KwArgs))
-    go NoFlat = tt
-    go (AtFlat j) = tt
+    go : (p : Option Flat) → EarlyStep (list.unless_flat p list.multiple_kw_args (list.advance u i KwArgs))
+    go None = tt
+    go (Some j) = tt
 
 early_step : (before : List Param) (u : Unpacking) (p : Param) → EarlyStep (list.step before u p)
 unfolding step
@@ -174,10 +170,10 @@ early_star (p ∷ slash r ∷ l) c = omega arith
 early_star (p ∷ args r n ∷ l) c = omega arith
 early_star (p ∷ kwargs r n ∷ l) c = omega arith
 
-early_finish : (w : List Param) (p : WrittenPlace) (c : Counts) → EarlyOutcome (list.finish w p c)
+early_finish : (w : List Param) (p : Option Written) (c : Counts) → EarlyOutcome (list.finish w p c)
 unfolding finish
-early_finish w NoWritten c = tt
-early_finish w (AtWritten i) c = early_star (drop i.0 w) c
+early_finish w None c = tt
+early_finish w (Some i) c = early_star (drop i.0 w) c
 
 early_run : (before : List Param) (u : Unpacking) (l : List Param) → EarlyOutcome (list.run before u l)
 unfolding run
@@ -226,15 +222,15 @@ EarlyKept Kept = Unit {0}
 EarlyKept (Stopped n) = (19 < n) × (n < 25)
 EarlyKept (Repeated i) = Unit {0}
 
-early_form : (s : ArgsStage) (f : Found) (k : forms.Kind) → EarlyKept (call.rule s f k)
+early_form : (s : ArgsStage) (f : Option ℕ) (k : forms.Kind) → EarlyKept (call.rule s f k)
 early_form AtPositional f Positional = tt
 early_form AtNamed f Positional = (omega arith, omega arith)
 early_form AtArgs f Positional = (omega arith, omega arith)
 early_form AtKwargs f Positional = (omega arith, omega arith)
-early_form AtPositional (At i) Named = tt
-early_form AtPositional Nothing Named = tt
-early_form AtNamed (At i) Named = tt
-early_form AtNamed Nothing Named = tt
+early_form AtPositional (Some i) Named = tt
+early_form AtPositional None Named = tt
+early_form AtNamed (Some i) Named = tt
+early_form AtNamed None Named = tt
 early_form AtArgs f Named = (omega arith, omega arith)
 early_form AtKwargs f Named = (omega arith, omega arith)
 early_form AtPositional f Star = tt

@@ -4,6 +4,7 @@
 -- search by name finds a parameter that can be called by that name (`name_found`), and misses only if there is none
 -- (`name_missed`); both are by induction on the parameters. No two parameters have one name (`one_name`). Assumes
 -- nothing.
+use Rattle.std.specs.Prelude.{None, Some}
 use mathlib.Core.Path.{◌≡◌, refl, sym, ap, ◌∙◌}
 use mathlib.Core.Bool.{Bool, true, false, ◌&&◌, ◌||◌}
 use mathlib.Core.Logic.{◌⊎◌, inl, inr}
@@ -17,7 +18,6 @@ use Rattle.fields.proofs.Basics.{never, le_or_lt}
 use Rattle.fields.specs.Choice.{if'}
 use Rattle.forest.specs.Names.{same, Distinct}
 use Rattle.forest.proofs.Named.{same_bytes_refl, same_bytes_equal}
-use Rattle.table.specs.declared.Place.TheVariants.{At, Nothing}
 use Rattle.deflist.specs.Written.{Name, Param, normal, no_args, slash, args, kwargs}
 use Rattle.deflist.specs.Unpack.{unpack, accepted, modes, mode_pos_only, mode_pos_or_name, mode_name_only, mode_args}
 use Rattle.deflist.specs.Unpack.{mode_kwargs}
@@ -73,27 +73,27 @@ pub record Stands (ps : List Param) (c : Counts) : Type 0 where
   pub front : (i : ℕ) → i < c.num_positional.0
       → (get_or (modes ps) i 0 ≡ mode_pos_only) ⊎ (get_or (modes ps) i 0 ≡ mode_pos_or_name)
   pub back : (i : ℕ) → c.num_positional.0 ≤ i → i < length (flats ps) → 2 < get_or (modes ps) i 0
-  pub args : (i : ℕ) → place_of c.args ≡ At i → (i < length (flats ps)) × (get_or (modes ps) i 0 ≡ mode_args)
-  pub kwargs : (i : ℕ) → place_of c.kwargs ≡ At i → (i < length (flats ps)) × (get_or (modes ps) i 0 ≡ mode_kwargs)
-  pub some_args : (i : ℕ) → i < length (flats ps) → get_or (modes ps) i 0 ≡ mode_args → place_of c.args ≡ Nothing → ⊥
-  pub some_kwargs : (i : ℕ) → i < length (flats ps) → get_or (modes ps) i 0 ≡ mode_kwargs → place_of c.kwargs ≡ Nothing
+  pub args : (i : ℕ) → place_of c.args ≡ Some i → (i < length (flats ps)) × (get_or (modes ps) i 0 ≡ mode_args)
+  pub kwargs : (i : ℕ) → place_of c.kwargs ≡ Some i → (i < length (flats ps)) × (get_or (modes ps) i 0 ≡ mode_kwargs)
+  pub some_args : (i : ℕ) → i < length (flats ps) → get_or (modes ps) i 0 ≡ mode_args → place_of c.args ≡ None → ⊥
+  pub some_kwargs : (i : ℕ) → i < length (flats ps) → get_or (modes ps) i 0 ≡ mode_kwargs → place_of c.kwargs ≡ None
       → ⊥
 
-args_at : (s : Star) (m i : ℕ) → place_of (args_place s m) ≡ At i → (i ≡ m) × (length (args_part s) ≡ 1)
+args_at : (s : Star) (m i : ℕ) → place_of (args_place s m) ≡ Some i → (i ≡ m) × (length (args_part s) ≡ 1)
 args_at no_star m i e = never (cc)
 args_at (bare r qs) m i e = never (cc)
 args_at (starred r n qs) m i e = (cc, refl)
 
-kwargs_at : (l : Last) (m i : ℕ) → place_of (kwargs_place l m) ≡ At i → (i ≡ m) × (length (kwargs_part l) ≡ 1)
+kwargs_at : (l : Last) (m i : ℕ) → place_of (kwargs_place l m) ≡ Some i → (i ≡ m) × (length (kwargs_part l) ≡ 1)
 kwargs_at no_kwargs m i e = never (cc)
 kwargs_at (with_kwargs r n) m i e = (cc, refl)
 
-no_args_lem : (s : Star) (m : ℕ) → place_of (args_place s m) ≡ Nothing → length (args_part s) ≡ 0
+no_args_lem : (s : Star) (m : ℕ) → place_of (args_place s m) ≡ None → length (args_part s) ≡ 0
 no_args_lem no_star m e = refl
 no_args_lem (bare r qs) m e = refl
 no_args_lem (starred r n qs) m e = never (cc)
 
-no_kwargs_lem : (l : Last) (m : ℕ) → place_of (kwargs_place l m) ≡ Nothing → length (kwargs_part l) ≡ 0
+no_kwargs_lem : (l : Last) (m : ℕ) → place_of (kwargs_place l m) ≡ None → length (kwargs_part l) ≡ 0
 no_kwargs_lem no_kwargs m e = refl
 no_kwargs_lem (with_kwargs r n) m e = never (cc)
 
@@ -261,14 +261,14 @@ found_behind p fs x k i r = record {
   };
 }
 
-pub name_found : (fs : List FlatParam) (x : Name) (k i : ℕ) → named_from k x fs ≡ At i → FoundFrom fs x k i
+pub name_found : (fs : List FlatParam) (x : Name) (k i : ℕ) → named_from k x fs ≡ Some i → FoundFrom fs x k i
 unfolding named_from
 name_found [] x k i e = never (cc)
 name_found (p ∷ fs) x k i e = go (called_by_name p.mode) (same p.name x) refl refl e (name_found fs x (k + 1) i)
   where
     go : (a b : Bool) → called_by_name p.mode ≡ a → same p.name x ≡ b
-        → if' (a && b) (λ _. At k) (λ _. named_from (k + 1) x fs) ≡ At i
-        → (named_from (k + 1) x fs ≡ At i → FoundFrom fs x (k + 1) i) → FoundFrom (p ∷ fs) x k i
+        → if' (a && b) (λ _. Some k) (λ _. named_from (k + 1) x fs) ≡ Some i
+        → (named_from (k + 1) x fs ≡ Some i → FoundFrom fs x (k + 1) i) → FoundFrom (p ∷ fs) x k i
     go true true f g e rest = let same_index : i ≡ k = cc in record {
       place = 0;
       is = omega arith;
@@ -282,7 +282,7 @@ name_found (p ∷ fs) x k i e = go (called_by_name p.mode) (same p.name x) refl 
     go true false f g e rest = found_behind p fs x k i (rest e)
     go false b f g e rest = found_behind p fs x k i (rest e)
 
-pub name_missed : (fs : List FlatParam) (x : Name) (k : ℕ) → named_from k x fs ≡ Nothing → (i : ℕ) (p : FlatParam)
+pub name_missed : (fs : List FlatParam) (x : Name) (k : ℕ) → named_from k x fs ≡ None → (i : ℕ) (p : FlatParam)
     → IsAt fs i p → CanBeNamed p → p.name ≡ x → ⊥
 unfolding named_from
 name_missed [] x k e i p at c n = elim at [ ]
@@ -292,12 +292,12 @@ name_missed (q ∷ fs) x k e zero p at c n =
       ap (λ (y : FlatParam). y.name) at ∙ n,
       same_bytes_refl x,
     ) refl in
-    let hit : At k ≡ Nothing = rw test at e in
+    let hit : Some k ≡ None = rw test at e in
     never (cc)
 name_missed (q ∷ fs) x k e (suc i) p at c n = go (called_by_name q.mode && same q.name x) e
     (λ f. name_missed fs x (k + 1) f i p at c n)
   where
-    go : (b : Bool) → if' b (λ _. At k) (λ _. named_from (k + 1) x fs) ≡ Nothing
-        → (named_from (k + 1) x fs ≡ Nothing → ⊥) → ⊥
+    go : (b : Bool) → if' b (λ _. Some k) (λ _. named_from (k + 1) x fs) ≡ None
+        → (named_from (k + 1) x fs ≡ None → ⊥) → ⊥
     go true e rest = never (cc)
     go false e rest = rest e

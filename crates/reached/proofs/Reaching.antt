@@ -3,6 +3,7 @@
 -- (`place_filled`, `place_joined`, `name_filled`, `name_joined`). So what is filled is an ordinary parameter of the
 -- list and what is joined is a star (`fills_ordinary`, `joins_starred`), by Params. The last laws say it in the words
 -- of the rules, in both directions: `placed_by` and `placed_fills`, `named_by` and `named_fills`. Assumes nothing.
+use Rattle.std.specs.Prelude.{None, Option, Some, ℕ}
 use mathlib.Core.Path.{◌≡◌, refl, sym, ap, ◌∙◌}
 use mathlib.Core.Bool.{Bool, true, false}
 use mathlib.Core.Logic.{◌⊎◌, inl, inr}
@@ -15,8 +16,6 @@ use borrow.Author.Tests.{lt-ltb, ltb-true, ltb-false}
 use Rattle.fields.proofs.Basics.{never, le_or_lt}
 use Rattle.fields.specs.Choice.{if'}
 use Rattle.forest.specs.Forest.{Node}
-use Rattle.table.specs.declared.Place.{Place}
-use Rattle.table.specs.declared.Place.TheVariants.{At, Nothing}
 use Rattle.deflist.specs.Written.{Name, Param}
 use Rattle.deflist.specs.Unpack.{unpack, accepted, modes, mode_pos_only, mode_pos_or_name, mode_args, mode_kwargs}
 use Rattle.deflist.specs.declared.Counts.{Counts}
@@ -53,9 +52,9 @@ module _ (ps : List Param) (c : Counts) (outcome : unpack ps ≡ accepted c) whe
   unfolding counted_of
   place_filled k i e = go (ltb k c.num_positional.0) refl e
     where
-      no : (x : Place) → collected x ≡ Fills i → (i ≡ k) × (k < c.num_positional.0)
-      no (At j) e = never (cc)
-      no Nothing e = never (cc)
+      no : (x : Option ℕ) → collected x ≡ Fills i → (i ≡ k) × (k < c.num_positional.0)
+      no (Some j) e = never (cc)
+      no None e = never (cc)
 
       go : (b : Bool) → ltb k c.num_positional.0 ≡ b
           → if' b (λ _. Fills k) (λ _. collected (place_of c.args)) ≡ Fills i
@@ -64,38 +63,38 @@ module _ (ps : List Param) (c : Counts) (outcome : unpack ps ≡ accepted c) whe
       go false f e = no (place_of c.args) e
 
   pub place_joined : (k i : ℕ) → by_place d k ≡ Joins i
-      → (c.num_positional.0 ≤ k) × (place_of c.args ≡ At i)
+      → (c.num_positional.0 ≤ k) × (place_of c.args ≡ Some i)
   unfolding counted_of
   place_joined k i e = go (ltb k c.num_positional.0) refl e
     where
-      star : (x : Place) → collected x ≡ Joins i → x ≡ At i
-      star (At j) e = let same : j ≡ i = cc in ap At same
-      star Nothing e = never (cc)
+      star : (x : Option ℕ) → collected x ≡ Joins i → x ≡ Some i
+      star (Some j) e = let same : j ≡ i = cc in ap Some same
+      star None e = never (cc)
 
       go : (b : Bool) → ltb k c.num_positional.0 ≡ b
           → if' b (λ _. Fills k) (λ _. collected (place_of c.args)) ≡ Joins i
-          → (c.num_positional.0 ≤ k) × (place_of c.args ≡ At i)
+          → (c.num_positional.0 ≤ k) × (place_of c.args ≡ Some i)
       go true f e = never (cc)
       go false f e = (ltb-false k c.num_positional.0 f, star (place_of c.args) e)
 
   -- by its name
-  pub name_filled : (x : Place) (i : ℕ) → by_name x d.kwargs ≡ Fills i → x ≡ At i
-  name_filled (At j) i e = let same : j ≡ i = cc in ap At same
-  name_filled Nothing i e = no d.kwargs e
+  pub name_filled : (x : Option ℕ) (i : ℕ) → by_name x d.kwargs ≡ Fills i → x ≡ Some i
+  name_filled (Some j) i e = let same : j ≡ i = cc in ap Some same
+  name_filled None i e = no d.kwargs e
     where
-      no : (x : Place) → collected x ≡ Fills i → Nothing ≡ At i
-      no (At j) e = never (cc)
-      no Nothing e = never (cc)
+      no : (x : Option ℕ) → collected x ≡ Fills i → None ≡ Some i
+      no (Some j) e = never (cc)
+      no None e = never (cc)
 
-  pub name_joined : (x : Place) (i : ℕ) → by_name x d.kwargs ≡ Joins i
-      → (x ≡ Nothing) × (place_of c.kwargs ≡ At i)
+  pub name_joined : (x : Option ℕ) (i : ℕ) → by_name x d.kwargs ≡ Joins i
+      → (x ≡ None) × (place_of c.kwargs ≡ Some i)
   unfolding counted_of
-  name_joined (At j) i e = never (cc)
-  name_joined Nothing i e = (refl, star (place_of c.kwargs) e)
+  name_joined (Some j) i e = never (cc)
+  name_joined None i e = (refl, star (place_of c.kwargs) e)
     where
-      star : (x : Place) → collected x ≡ Joins i → x ≡ At i
-      star (At j) e = let same : j ≡ i = cc in ap At same
-      star Nothing e = never (cc)
+      star : (x : Option ℕ) → collected x ≡ Joins i → x ≡ Some i
+      star (Some j) e = let same : j ≡ i = cc in ap Some same
+      star None e = never (cc)
 
   -- the parameter at a flat index
   pub record Sits (i : ℕ) (P : FlatParam → Type 0) : Type 0 where
@@ -113,19 +112,19 @@ module _ (ps : List Param) (c : Counts) (outcome : unpack ps ≡ accepted c) whe
       go q (inl e) m = inl (m ∙ e)
       go q (inr e) m = inr (m ∙ e)
 
-  pub args_sits : (i : ℕ) → place_of c.args ≡ At i → Sits i (λ (q : FlatParam). q.mode ≡ mode_args)
+  pub args_sits : (i : ℕ) → place_of c.args ≡ Some i → Sits i (λ (q : FlatParam). q.mode ≡ mode_args)
   args_sits i e =
       let k = st.args i e in
       let x = there (flats ps) i k.0 in
       record { param = x.0; there = x.1; kind = mode_at_lem ps i x.0 x.1 ∙ k.1 }
 
-  pub kwargs_sits : (i : ℕ) → place_of c.kwargs ≡ At i → Sits i (λ (q : FlatParam). q.mode ≡ mode_kwargs)
+  pub kwargs_sits : (i : ℕ) → place_of c.kwargs ≡ Some i → Sits i (λ (q : FlatParam). q.mode ≡ mode_kwargs)
   kwargs_sits i e =
       let k = st.kwargs i e in
       let x = there (flats ps) i k.0 in
       record { param = x.0; there = x.1; kind = mode_at_lem ps i x.0 x.1 ∙ k.1 }
 
-  pub named_sits : (x : Name) (i : ℕ) → named_from 0 x (flats ps) ≡ At i → Named (flats ps) x i
+  pub named_sits : (x : Name) (i : ℕ) → named_from 0 x (flats ps) ≡ Some i → Named (flats ps) x i
   named_sits x i e =
       let k = name_found (flats ps) x 0 i e in
       let same : k.place ≡ i = omega (arith, k.is) in
@@ -216,8 +215,8 @@ module _ (ps : List Param) (c : Counts) (outcome : unpack ps ≡ accepted c) whe
   unfolding reaches
   named_fills k r x i n = go (named_from 0 x (flats ps)) refl
     where
-      go : (q : Place) → named_from 0 x (flats ps) ≡ q → by_name q d.kwargs ≡ Fills i
-      go (At j) e =
+      go : (q : Option ℕ) → named_from 0 x (flats ps) ≡ q → by_name q d.kwargs ≡ Fills i
+      go (Some j) e =
           let f = named_sits x j e in
           ap Fills (one_name ps c outcome j i f.param n.param f.there n.there (f.name ∙ sym n.name))
-      go Nothing e = absurd (name_missed (flats ps) x 0 e i n.param n.there n.can_be n.name)
+      go None e = absurd (name_missed (flats ps) x 0 e i n.param n.there n.can_be n.name)

@@ -7,6 +7,7 @@
 -- walk's: it stops at an argument that reaches nothing, and each before it reaches something, so has a parameter at its
 -- place, since there is no `*args`. 84 is the search for a parameter whose word is 0; a word is 0 exactly where no
 -- argument fills the parameter (`was_empty`, `comes_from`). Assumes nothing.
+use Rattle.std.specs.Prelude.{None, Option, Some, ℕ}
 use mathlib.Core.Path.{◌≡◌, refl, sym, ap, ◌∙◌}
 use mathlib.Core.Bool.{Bool, true, false, not, ◌&&◌}
 use mathlib.Core.Logic.{◌⊎◌, inl, inr}
@@ -21,8 +22,6 @@ use Rattle.fields.specs.Choice.{if'}
 use Rattle.forest.specs.Forest.{Node}
 use Rattle.table.specs.Numbers.{star_argument, too_many_positional, empty_parameter}
 use Rattle.table.specs.Answer.{accepted, refused, refused_at}
-use Rattle.table.specs.declared.Place.{Place}
-use Rattle.table.specs.declared.Place.TheVariants.{At, Nothing}
 use Rattle.deflist.specs.Written.{Name, Param}
 use Rattle.deflist.specs.Unpack as outcome
 use Rattle.deflist.specs.Unpack.{unpack, modes}
@@ -282,18 +281,18 @@ module _ (t ns : List ℕ) (call def room : ℕ) where
           }
 
     -- a positional argument that reaches nothing, where those before it reach something
-    no_args_lem : (k : ℕ) → by_place d k ≡ Nowhere → (c.num_positional.0 ≤ k) × (place_of c.args ≡ Nothing)
+    no_args_lem : (k : ℕ) → by_place d k ≡ Nowhere → (c.num_positional.0 ≤ k) × (place_of c.args ≡ None)
     unfolding counted_of
     no_args_lem k e = go (ltb k c.num_positional.0) (place_of c.args) refl refl e
       where
-        go : (b : Bool) (x : Place) → ltb k c.num_positional.0 ≡ b → place_of c.args ≡ x
+        go : (b : Bool) (x : Option ℕ) → ltb k c.num_positional.0 ≡ b → place_of c.args ≡ x
             → if' b (λ _. Fills k) (λ _. collected x) ≡ Nowhere
-            → (c.num_positional.0 ≤ k) × (place_of c.args ≡ Nothing)
+            → (c.num_positional.0 ≤ k) × (place_of c.args ≡ None)
         go true x f g e = never (cc)
-        go false (At j) f g e = never (cc)
-        go false Nothing f g e = (ltb-false k c.num_positional.0 f, g)
+        go false (Some j) f g e = never (cc)
+        go false None f g e = (ltb-false k c.num_positional.0 f, g)
 
-    placed_before : (k : ℕ) → place_of c.args ≡ Nothing → (by_place d k ≡ Nowhere → ⊥) → Placed fs k
+    placed_before : (k : ℕ) → place_of c.args ≡ None → (by_place d k ≡ Nowhere → ⊥) → Placed fs k
     unfolding counted_of
     placed_before k g some = go (ltb k c.num_positional.0) refl
       where
@@ -314,7 +313,7 @@ module _ (t ns : List ℕ) (call def room : ℕ) where
     earlier : (j : ℕ) (r : Node) → IsAt qs j (positional r)
         → ((i l : ℕ) (u v : Node) (x : Name) → IsAt qs i (positional u) → IsAt qs l (named v x) → i < l)
         → ((i : ℕ) (b : Argument) → i < j → IsAt qs i b → reaches d fs (0 + i) b ≡ Nowhere → ⊥)
-        → place_of c.args ≡ Nothing → (i : ℕ) → i < j → Placed fs i
+        → place_of c.args ≡ None → (i : ℕ) → i < j → Placed fs i
     unfolding reaches
     earlier j r at turn before g i h =
         let x = there qs i (omega (arith, within qs j (positional r) at)) in

@@ -4,6 +4,7 @@
 -- call the positional arguments come first (`in_turn`), and names are distinct; so two arguments that fill one
 -- parameter are a positional one and a later named one, which is 83 (`against`), and 82 is a named one with no
 -- parameter of its name and no `**kwargs` (`no_kwargs_lem`). Assumes nothing.
+use Rattle.std.specs.Prelude.{None, Option, Some, ℕ}
 use mathlib.Core.Path.{◌≡◌, refl, sym, ap, ◌∙◌}
 use mathlib.Core.Bool.{Bool, true, false}
 use mathlib.Core.Logic.{◌⊎◌, inl, inr}
@@ -18,8 +19,6 @@ use Rattle.fields.specs.Choice.{if'}
 use Rattle.forest.specs.Forest.{Node}
 use Rattle.table.specs.Numbers.{unknown_named, already_filled}
 use Rattle.table.specs.Answer.{Answer, accepted, refused, refused_at}
-use Rattle.table.specs.declared.Place.{Place}
-use Rattle.table.specs.declared.Place.TheVariants.{At, Nothing}
 use Rattle.deflist.specs.Written.{Name, Param}
 use Rattle.deflist.specs.Unpack.{mode_kwargs}
 use Rattle.parameters.specs.Indices.{place_of, counted_of}
@@ -34,7 +33,6 @@ use Rattle.arguments.specs.declared.Kind.{Kind}
 use Rattle.arguments.specs.declared.Kind.TheVariants.{Positional, Named, Args, KwArgs}
 use Rattle.arguments.specs.declared.CallArgs.{CallArgs}
 use Rattle.arguments.proofs.Order.{unpacked_ordered}
-use Rattle.table.specs.declared.Place.TheVariants.{At as AtPlace, Nothing as NoPlace}
 use Rattle.bind.specs.FlatList.{FlatParam}
 use Rattle.bind.specs.Binding.{named_from, by_name, reaches, unreached, turn, and_with, along}
 use Rattle.bind.specs.Job.{arguments_at, bind_of, no_words}
@@ -278,11 +276,11 @@ none_behind : (c : CallArgs) → NoPositional (replicate c.num_named Named
     ++ (one c.star Args ++ one c.star_star KwArgs))
 none_behind c = go c.num_named
   where
-    last : (s u : Place) → NoPositional (one s Args ++ one u KwArgs)
-    last (AtPlace i) (AtPlace j) = ((λ e. never (cc)), ((λ e. never (cc)), tt))
-    last (AtPlace i) NoPlace = ((λ e. never (cc)), tt)
-    last NoPlace (AtPlace j) = ((λ e. never (cc)), tt)
-    last NoPlace NoPlace = tt
+    last : (s u : Option ℕ) → NoPositional (one s Args ++ one u KwArgs)
+    last (Some i) (Some j) = ((λ e. never (cc)), ((λ e. never (cc)), tt))
+    last (Some i) None = ((λ e. never (cc)), tt)
+    last None (Some j) = ((λ e. never (cc)), tt)
+    last None None = tt
 
     go : (n : ℕ) → NoPositional (replicate n Named ++ (one c.star Args ++ one c.star_star KwArgs))
     go zero = last c.star c.star_star
@@ -339,10 +337,10 @@ module _ (t ns : List ℕ) (call def room : ℕ) where
     no_kwargs_lem k (kwargs r) e u i p sits m = absurd (omega arith)
     no_kwargs_lem k (named r x) e u i p sits m = go (named_from 0 x fs) (place_of w.counts.kwargs) refl e
       where
-        go : (q y : Place) → place_of w.counts.kwargs ≡ y → by_name q y ≡ Nowhere → ⊥
-        go (At j) y f e = never (cc)
-        go Nothing (At j) f e = never (cc)
-        go Nothing Nothing f e = (reaching.st ps w.counts w.outcome).some_kwargs i (within fs i p sits)
+        go : (q y : Option ℕ) → place_of w.counts.kwargs ≡ y → by_name q y ≡ Nowhere → ⊥
+        go (Some j) y f e = never (cc)
+        go None (Some j) f e = never (cc)
+        go None None f e = (reaching.st ps w.counts w.outcome).some_kwargs i (within fs i p sits)
             (sym (mode_at_lem ps i p sits) ∙ m) f
 
     -- a named argument whose parameter an earlier argument has filled: that one is positional

@@ -1,10 +1,9 @@
 -- A call and a def to which W-204 applies, record by record: `def f(a, /, b=1, *args, c, **k): pass` and `f(1, 2, 3,
 -- c=4, d=5)`. The def is of source file 1 and the call of source file 2 (W-208). These are definitions.
-use Rattle.std.specs.Prelude.{true, false, List, [], ◌∷◌, ◌++◌, ℕ, replicate}
+use Rattle.std.specs.Prelude.{true, false, List, [], ◌∷◌, ◌++◌, ℕ, replicate, None}
 use Rattle.soundness.specs.KindNumbers.{kind_statements, kind_def, kind_other_simple, kind_call, kind_identifier, kind_int}
 use Rattle.soundness.specs.KindNumbers.{kind_normal, kind_slash, kind_args_param, kind_kw_args_param, kind_positional}
 use Rattle.soundness.specs.KindNumbers.{kind_named}
-use Rattle.table.specs.declared.Place.TheVariants.{Nothing}
 use Rattle.deflist.specs.Unpack.{mode_pos_only, mode_pos_or_name, mode_name_only, mode_args, mode_kwargs}
 use Rattle.demand3.specs.Example.{bytes_of, record_at}
 use Rattle.arguments.specs.Written.{Argument, positional, named}
@@ -79,4 +78,4 @@ arguments =
 
 -- three positional and two named
 abbrev pub counts : CallArgs
-counts = record { num_pos = 3; num_named = 2; star = Nothing; star_star = Nothing }
+counts = record { num_pos = 3; num_named = 2; star = None; star_star = None }

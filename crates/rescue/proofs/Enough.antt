@@ -3,6 +3,9 @@
 -- depends on the first n bytes alone (the laws of parts in blocks); if not, both answers are 90. So the answer is the
 -- same but for the number of bytes after the last block, to which the unread bytes are added (`read_enough`), and the
 -- buffer is the same (`file_enough`). Assumes nothing.
+use Rattle.std.specs.Prelude.{Err, Ok, Result}
+use Rattle.table.specs.declared.Refusal.{Refusal}
+use Rattle.rescue.specs.declared.Kept.{Kept}
 use mathlib.Core.Path.{◌≡◌, refl, sym, ap, ◌∙◌}
 use mathlib.Core.Bool.{Bool, true, false, and-false}
 use mathlib.Core.List.{List, [], ◌∷◌}
@@ -23,8 +26,6 @@ use Rattle.tablefile.proofs.Fronts.{name_blocks, taken_few}
 use Rattle.writer.specs.Writing.{afterwards}
 use Rattle.rescue.specs.Good.{head_good, blocks_pass, good_table}
 use Rattle.rescue.specs.Job.{table_kept, kept, rescue_of, file_after, rescued}
-use Rattle.rescue.specs.declared.Rescued.{Rescued}
-use Rattle.rescue.specs.declared.Rescued.TheVariants.{Accepted, Refused}
 use Rattle.rescue.proofs.Theorems.{steps, size, rescue_is, bad_head}
 
 -- an answer with more bytes after the last block
@@ -35,15 +36,15 @@ abbrev pub later : ℕ → Answer → Answer
 later d (accepted vs) = accepted (counted_on d vs)
 later d (refused n vs) = refused n vs
 
-abbrev pub more_of : ℕ → Rescued → Rescued
-more_of d (Accepted k) = Accepted record {
+abbrev pub more_of : ℕ → Result Kept Refusal → Result Kept Refusal
+more_of d (Ok k) = Ok record {
   bytes = k.bytes;
   statements = k.statements;
   nodes = k.nodes;
   dropped = k.dropped;
   after = k.after + d;
 }
-more_of d (Refused why) = Refused why
+more_of d (Err why) = Err why
 
 later_steps : (a b c : Bool) (d p q r s t : ℕ)
     → later d (steps a b c (p ∷ q ∷ r ∷ s ∷ t ∷ [])) ≡ steps a b c (p ∷ q ∷ r ∷ s ∷ (t + d) ∷ [])
@@ -158,13 +159,13 @@ module _ (bs : List ℕ) (n : ℕ) (big : 512 * most_blocks ≤ n) where
       go false unfit = answer_unfit unfit room
 
   -- THEOREM: the answer for the first n bytes, with the number of the other bytes added, is the answer for all
-  pub read_enough : (r : Rescued) (room : ℕ) → rescued r ≡ rescue_of (take n bs) room
+  pub read_enough : (r : Result Kept Refusal) (room : ℕ) → rescued r ≡ rescue_of (take n bs) room
       → rescued (more_of (length bs - n) r) ≡ rescue_of bs room
   read_enough r room e = means r ∙ ap (later (length bs - n)) e ∙ answer_same room
     where
-      means : (s : Rescued) → rescued (more_of (length bs - n) s) ≡ later (length bs - n) (rescued s)
-      means (Accepted k) = refl
-      means (Refused why) = refl
+      means : (s : Result Kept Refusal) → rescued (more_of (length bs - n) s) ≡ later (length bs - n) (rescued s)
+      means (Ok k) = refl
+      means (Err why) = refl
 
   -- the buffer at exit is the same
   pub file_enough : (buffer : List ℕ) → file_after (take n bs) buffer ≡ file_after bs buffer

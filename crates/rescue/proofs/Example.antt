@@ -2,6 +2,7 @@
 -- a detail, is unsound. Its blocks do not pass, and the rescue keeps the first of its two statements. The same with
 -- wrong source file numbers (W-208): the rescue cuts before a child with a wrong number, and keeps nothing under a
 -- root that has one. All is computed. Assumes nothing.
+use Rattle.std.specs.Prelude.{None}
 use mathlib.Core.Path.{◌≡◌, refl}
 use mathlib.Core.Bool.{Bool, true, false}
 use mathlib.Core.List.{List, [], ◌∷◌, ◌++◌, map}
@@ -32,7 +33,6 @@ use Rattle.rescue.specs.Cut.{resized, cut_to, largest, children_kept, largest_cu
 use Rattle.rescue.specs.Job.{table_kept, statements_of, rescue_of}
 use Rattle.dialect.specs.Bytes.{within, valid_bytes, from_bytes}
 use Rattle.dialect.specs.Editions.{edition_held}
-use Rattle.dialect.specs.declared.Stated.TheVariants.{Nothing}
 
 -- the 24 bytes of a record without a name: kind, detail, size, source file
 abbrev record_of : ℕ → ℕ → ℕ → ℕ → List ℕ
@@ -40,7 +40,7 @@ record_of kind detail size file = kind ∷ detail ∷ (replicate 14 0 ++ (size �
 
 -- a file of one block of records, with no name and no dialect
 abbrev pub holding : List ℕ → Content
-holding t = record { table = t; names = []; dialect = []; edition = Nothing }
+holding t = record { table = t; names = []; dialect = []; edition = None }
 
 abbrev pub content : Content
 content = holding (record_of kind_statements 0 3 0 ++ (record_of kind_break 0 1 1 ++ record_of kind_break 1 1 1))

@@ -3,6 +3,7 @@
 -- root's fields are sound, its source file number is 0, and each of its first k children is keepable (`cut_accepted`,
 -- `cut_keepable`). For the check of the cut is a check of its forest (soundness's `any_clean` and `clean_any`), which
 -- is the root and these children. The inductions are on the forest. Assumes nothing.
+use Rattle.std.specs.Prelude.{None, Option, Some, ℕ}
 use mathlib.Core.Path.{◌≡◌, refl, sym, ap, ◌∙◌}
 use mathlib.Core.Bool.{Bool, true, false, ◌&&◌}
 use mathlib.Core.List.{List, [], append-nil}
@@ -16,8 +17,6 @@ use Rattle.fields.specs.Choice.{if'}
 use Rattle.fields.proofs.Basics.{never, and_left, and_right, and_both}
 use Rattle.forest.specs.Forest.{Node, size_of, node_of, Tree, node, Forest, none, ◌then◌, forest, firsts, count, roots}
 use Rattle.forest.specs.Names.{same}
-use Rattle.forest.specs.declared.Found.{Found}
-use Rattle.forest.specs.declared.Found.TheVariants.{At, Nothing}
 use Rattle.soundness.specs.KindNumbers.{kind_statements}
 use Rattle.soundness.specs.Kinds.{statement, any, kind_of, kind_in, class_of}
 use Rattle.soundness.specs.Files.{file_numbers, any_file, file_sound, files_in, files_top, files_sound}
@@ -48,7 +47,7 @@ pub record Keepable (m : ℕ) (f : Forest) : Type 0 where
   pub files : files_top f ≡ true
   pub whole : whole_trees f ≡ true
   pub statements : same (classes f) (replicate (length (classes f)) statement) ≡ true
-  pub flat : first_deep 1 f ≡ Nothing
+  pub flat : first_deep 1 f ≡ None
 
 -- the parts of one of them
 pub record Child (m : ℕ) (r : Node) (ks : Forest) : Type 0 where
@@ -91,12 +90,12 @@ each_says m (node r ks then ts) e =
       flat = rw (clear_is (deep_in 1 (node r ks)) here.flat) rest.flat;
     }
 
-or_else_lem : (x y : Found) → or_else x (λ _. y) ≡ Nothing → (clear x ≡ true) × (y ≡ Nothing)
-or_else_lem (At i) y e = never (cc)
-or_else_lem Nothing y e = (refl, e)
+or_else_lem : (x y : Option ℕ) → or_else x (λ _. y) ≡ None → (clear x ≡ true) × (y ≡ None)
+or_else_lem (Some i) y e = never (cc)
+or_else_lem None y e = (refl, e)
 
 says_each : (m : ℕ) (f : Forest) → all_sound (λ i. context m any_file) f ≡ true → files_top f ≡ true
-    → same (classes f) (replicate (length (classes f)) statement) ≡ true → first_deep 1 f ≡ Nothing
+    → same (classes f) (replicate (length (classes f)) statement) ≡ true → first_deep 1 f ≡ None
     → each (keepable m) f ≡ true
 unfolding each all_sound files_top classes same first_deep
 says_each m none s n c d = refl
@@ -202,9 +201,9 @@ module _ {t : List ℕ} (names : List ℕ) (r : Rooted t) (k : ℕ) where
   unfolding first_deep
   deep_is = ap (first_deep 0) (cut_forest k r) ∙ rw (kind_cut, weight_statements) (go (first_deep 1 kids))
     where
-      go : (y : Found) → or_else y (λ _. Nothing) ≡ y
-      go (At i) = refl
-      go Nothing = refl
+      go : (y : Option ℕ) → or_else y (λ _. None) ≡ y
+      go (Some i) = refl
+      go None = refl
 
   root_covers : root_sound (cut_to k t) ≡ true
   unfolding root_sound

@@ -3,6 +3,7 @@
 -- kept). From there on the three tests of the definition are those of the code: 90, 91 and 7. The output is written
 -- by the writer, or copied if the blocks pass; then the kept file is these blocks (`lay_whole`, by Keeping's
 -- `whole_file`). No induction. Assumes nothing.
+use Rattle.std.specs.Prelude.{Option, ℕ}
 use mathlib.Core.Path.{◌≡◌, refl, sym, ap, ◌∙◌}
 use mathlib.Core.Bool.{Bool, true, false, ◌&&◌}
 use mathlib.Core.List.{List, [], ◌∷◌}
@@ -11,7 +12,6 @@ use native.Mathlib.Omega.{arith}
 use lib.ListN.{length, take, drop, length-take, length-drop}
 use lib.Seq.{take_at}
 use lib.Dec.{leb}
-use Rattle.dialect.specs.declared.Stated.{Stated}
 use Rattle.fields.proofs.Fields.{tail_part}
 use Rattle.fields.specs.Over.{over}
 use Rattle.fields.proofs.Over.{over_front}
@@ -157,7 +157,8 @@ module _ {bs : List ℕ} {h : Heading} {names t : List ℕ} {whole : Bool} (k : 
         laid_part bs file (lay_there e, lay_room e) laid
         ∙ sym (over_front (file_of (kept bs)) file ∙ rw (long, same) refl)
 
-    pub lay_cut : {ds : List ℕ} → ds ≡ (content_at bs).dialect → {edition : Stated} → edition ≡ (content_at bs).edition
+    pub lay_cut : {ds : List ℕ} → ds ≡ (content_at bs).dialect → {edition : Option ℕ}
+        → edition ≡ (content_at bs).edition
         → {after : List ℕ} → after ≡ laid_over (holding t names ds edition) file
         → after ≡ over 0 (file_of (kept bs)) file
     lay_cut {ds} ds-is {edition} edition-is after_is =

@@ -3,6 +3,7 @@
 -- `kept bs` itself. If the blocks pass, `kept bs` is their content and its file is these blocks (`whole_file`, by
 -- tablefile's `front_is_file`). The blocks pass exactly if the good records are all records of the header and pass 1
 -- to 4 (`whole_is`), which is what the code tests. Assumes nothing.
+use Rattle.std.specs.Prelude.{None, Option, Some}
 use mathlib.Core.Path.{◌≡◌, refl, sym, ap, ◌∙◌}
 use mathlib.Core.Bool.{Bool, true, false, ◌&&◌}
 use mathlib.Core.Logic.{⊎_elim}
@@ -17,11 +18,7 @@ use Rattle.fields.proofs.Basics.{clash, and_left, and_right, le_or_lt}
 use Rattle.fields.proofs.Spelling.{Bytes, bytes_take, bytes_drop, bytes_set}
 use Rattle.dialect.specs.Bytes.{from_bytes}
 use Rattle.dialect.specs.declared.Dialect.{Dialect}
-use Rattle.dialect.specs.declared.Decoded.{Decoded}
-use Rattle.dialect.specs.declared.Decoded.TheVariants.{Valid, Invalid}
 use Rattle.dialect.specs.declared.Edition.{Edition}
-use Rattle.dialect.specs.declared.EditionRead.{EditionRead}
-use Rattle.dialect.specs.declared.EditionRead.TheVariants.{Known, Unknown}
 use Rattle.forest.specs.Forest.{node_of, firsts, count}
 use Rattle.soundness.specs.KindNumbers.{kind_statements}
 use Rattle.table.specs.Answer.{Answer, accepted, refused, passes, and_then}
@@ -53,8 +50,8 @@ use Rattle.rescue.proofs.Largest.{keeps}
 pub record Head (bs : List ℕ) : Type 0 where
   pub fit : counts_fit (header_at bs).nodes (header_at bs).names ≡ true
   pub counts : Small (header_at bs).nodes (header_at bs).names
-  pub dialect : (d : Dialect) × (from_bytes (content_at bs).dialect ≡ Valid d)
-  pub edition : (e : Edition) × (edition_read (content_at bs) ≡ Known e)
+  pub dialect : (d : Dialect) × (from_bytes (content_at bs).dialect ≡ Some d)
+  pub edition : (e : Edition) × (edition_read (content_at bs) ≡ Some e)
   pub block : passes (judge 0 (used_of (header_at bs)) bs) ≡ true
   pub names : passes (judge_run 1 (header_at bs).names (drop 512 bs)) ≡ true
 
@@ -77,13 +74,13 @@ head_says bs e =
       names = and_right held _ four;
     }
   where
-    go : (x : Decoded) → is_dialect x ≡ true → (d : Dialect) × (x ≡ Valid d)
-    go (Valid d) e = (d, refl)
-    go Invalid e = clash e refl
+    go : (x : Option Dialect) → is_dialect x ≡ true → (d : Dialect) × (x ≡ Some d)
+    go (Some d) e = (d, refl)
+    go None e = clash e refl
 
-    known : (x : EditionRead) → is_edition x ≡ true → (e : Edition) × (x ≡ Known e)
-    known (Known e) h = (e, refl)
-    known Unknown h = clash h refl
+    known : (x : Option Edition) → is_edition x ≡ true → (e : Edition) × (x ≡ Some e)
+    known (Some e) h = (e, refl)
+    known None h = clash h refl
 
 -- the names of a good header are present whole
 module _ (bs : List ℕ) (head : head_good bs ≡ true) where
@@ -216,7 +213,7 @@ module _ (bs : List ℕ) (head : head_good bs ≡ true) where
       rw edition.1 (rules_given c.table c.names c.dialect edition.0) in
       ap passes given ∙ rw (head_says bs head).dialect.1 (go (check_of c.table c.names))
     where
-      go : (a : Answer) → passes (in_given (handing a (Valid (head_says bs head).dialect.0)) (λ _. accepted []))
+      go : (a : Answer) → passes (in_given (handing a (Some (head_says bs head).dialect.0)) (λ _. accepted []))
           ≡ passes a
       go (accepted vs) = refl
       go (refused n vs) = refl

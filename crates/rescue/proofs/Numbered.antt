@@ -2,6 +2,8 @@
 -- cuts before a child with a wrong number (`kept_files`). A cut passes only if the root has number 0 and each child
 -- is keepable (Greedy's `cut_keepable`). So nothing is kept under a root with a number (`numbered_root`), nor of a
 -- file that is older than the numbers, because its first child has 0 (`old_zeros`). Assumes nothing.
+use Rattle.std.specs.Prelude.{Err, Ok, Result}
+use Rattle.table.specs.declared.Refusal.{Refusal}
 use mathlib.Core.Path.{◌≡◌, ap}
 use mathlib.Core.Bool.{true, false}
 use mathlib.Core.List.{List}
@@ -19,8 +21,6 @@ use Rattle.table.specs.declared.Refusal.TheVariants.{Bare}
 use Rattle.table.proofs.Numbered.{accepted_files}
 use Rattle.tablefile.specs.Reading.{content_at}
 use Rattle.rescue.specs.declared.Kept.{Kept}
-use Rattle.rescue.specs.declared.Rescued.{Rescued}
-use Rattle.rescue.specs.declared.Rescued.TheVariants.{Accepted, Refused}
 use Rattle.rescue.specs.Good.{head_good, blocks_pass, good_table}
 use Rattle.rescue.specs.Job.{table_kept}
 use Rattle.rescue.specs.Claims.{Rescue, Passes}
@@ -61,20 +61,20 @@ module _ (bs : List ℕ) (j : ℕ) (q : Passes bs j) where
       let same = field_take 2 (drop 24 t) (span_of t - 24) 18 (omega (arith, length_kids t)) in
       omega arith
 
-module _ (bs buffer : List ℕ) (r : Rescued) (after : List ℕ) (p : Rescue bs buffer r after) where
+module _ (bs buffer : List ℕ) (r : Result Kept Refusal) (after : List ℕ) (p : Rescue bs buffer r after) where
   -- THEOREM: the numbers of what is kept are sound
-  pub kept_files : (k : Kept) → r ≡ Accepted k → files_sound (forest 0 (table_kept bs)) ≡ true
+  pub kept_files : (k : Kept) → r ≡ Ok k → files_sound (forest 0 (table_kept bs)) ≡ true
   kept_files k e =
       let s = all_says (done p e) in
       accepted_files (table_kept bs) (content_at bs).names (kept_checked bs s.head s.some)
 
   module _ (head : head_good bs ≡ true) (bad : blocks_pass bs ≡ false) where
     -- THEOREM: a root with a number is 91
-    pub numbered_root : ((node_of 0 (good_table bs)).file ≡ 0 → ⊥) → r ≡ Refused (Bare nothing_kept)
+    pub numbered_root : ((node_of 0 (good_table bs)).file ≡ 0 → ⊥) → r ≡ Err (Bare nothing_kept)
     numbered_root other = (nothing_can_be_kept bs buffer r after p).0
         record { head = head; blocks = bad; none = λ j some q. other (root_zero bs j q) }
 
     -- THEOREM: a first child without a number is 91
-    pub old_zeros : (record_at (good_table bs) 1).file ≡ 0 → r ≡ Refused (Bare nothing_kept)
+    pub old_zeros : (record_at (good_table bs) 1).file ≡ 0 → r ≡ Err (Bare nothing_kept)
     old_zeros z = (nothing_can_be_kept bs buffer r after p).0
         record { head = head; blocks = bad; none = λ j some q. omega (arith, child_numbered bs j q some) }

@@ -2,6 +2,8 @@
 -- something is kept, and that it fits (`says`); a refusal names the first of these tests that failed. What is kept is
 -- one definition, so each claim is a law about `kept bs`: that it is the largest follows from Largest, that it is
 -- read back and given back unchanged from Keeping and the laws of files. Assumes nothing.
+use Rattle.std.specs.Prelude.{Err, Ok, Result}
+use Rattle.table.specs.declared.Refusal.{Refusal}
 use mathlib.Core.Path.{◌≡◌, refl, sym, ap, ◌∙◌}
 use mathlib.Core.Bool.{Bool, true, false}
 use mathlib.Core.Logic.{⊎_elim}
@@ -28,7 +30,6 @@ use Rattle.blocks.proofs.Blocks.{passes as passed_block}
 use Rattle.tablefile.specs.File.{Content, file_of}
 use Rattle.tablefile.specs.Reading.{header_at, used_of, content_at, front_check, sound_check, read_check}
 use Rattle.tablefile.specs.Loading.{loaded_of}
-use Rattle.tablefile.specs.declared.Verdict.TheVariants as verdicts
 use Rattle.tablefile.proofs.Fronts.{Fronted, small_fits, first_is, taken_is, dialect_few, table_length_lem}
 use Rattle.tablefile.proofs.Accepted.{read_fronted, read_whole, read_is_sound, sound_known, SoundContent}
 use Rattle.tablefile.proofs.Accepted.{back_accepted, back_holds}
@@ -36,8 +37,6 @@ use Rattle.tablefile.proofs.Theorems.{Read, file_read_back}
 use Rattle.writer.specs.Writing.{bytes_for}
 use Rattle.writer.proofs.Building.{length_file}
 use Rattle.rescue.specs.declared.Kept.{Kept}
-use Rattle.rescue.specs.declared.Rescued.{Rescued}
-use Rattle.rescue.specs.declared.Rescued.TheVariants.{Accepted, Refused}
 use Rattle.rescue.specs.Good.{head_good, blocks_pass, good_table}
 use Rattle.rescue.specs.Cut.{children, cut_to, children_kept}
 use Rattle.rescue.specs.Job.{table_kept, kept, statements_of, told_of, rescue_of, file_after, told, rescued}
@@ -125,7 +124,7 @@ module _ (bs : List ℕ) (room : ℕ) where
 -- CLAIM 2
 pub bad_header_lem : BadHeader
 bad_header_lem bs buffer r after p = (
-  λ e. rescued_injective r (Refused (Bare bad_header)) (p.0 ∙ bad_head bs (length buffer) e),
+  λ e. rescued_injective r (Err (Bare bad_header)) (p.0 ∙ bad_head bs (length buffer) e),
   λ e. head_bad bs (length buffer) (sym p.0 ∙ ap rescued e),
 )
 
@@ -180,7 +179,7 @@ none_passes bs n =
 
 pub nothing_can_be_kept : NothingKept
 nothing_can_be_kept bs buffer r after p = (
-  λ n. rescued_injective r (Refused (Bare nothing_kept))
+  λ n. rescued_injective r (Err (Bare nothing_kept))
       (p.0 ∙ kept_nothing bs (length buffer) n.head (none_passes bs n)),
   λ e. let is = nothing_kept_lem bs (length buffer) (sym p.0 ∙ ap rescued e) in nothing bs is.0 is.1,
 )
@@ -218,7 +217,8 @@ pub record Done (bs buffer : List ℕ) (k : Kept) (after : List ℕ) : Type 0 wh
   pub answer : rescue_of bs (length buffer) ≡ accepted (told k)
   pub exit : after ≡ file_after bs buffer
 
-pub done : {bs buffer : List ℕ} {r : Rescued} {after : List ℕ} → Rescue bs buffer r after → {k : Kept} → r ≡ Accepted k
+pub done : {bs buffer : List ℕ} {r : Result Kept Refusal} {after : List ℕ} → Rescue bs buffer r after → {k : Kept}
+    → r ≡ Ok k
     → Done bs buffer k after
 done p good = record { answer = sym p.0 ∙ ap rescued good; exit = p.1 }
 
@@ -278,7 +278,7 @@ read_back bs buffer r after p k good small s read =
     let d = done p good in
     let read' : Read (file_of (kept bs)) s = rw (front_is d) at read in
     file_read_back (kept bs) s (kept_content bs (all_says d).head (all_says d).some small) read'
-    ∙ ap (loaded_of verdicts.Accepted (kept bs)) (sym (bytes_told d))
+    ∙ ap (loaded_of (Ok tt) (kept bs)) (sym (bytes_told d))
 
 -- CLAIM 5
 pub given_back : GivenBack
@@ -366,7 +366,7 @@ module _ {bs buffer : List ℕ} {k : Kept} {after : List ℕ} (d : Done bs buffe
   file_held : content_at file ≡ kept bs
   file_held = kept_held bs (all_says d).head (all_says d).some small
 
-  answer_again : (room : ℕ) → k.bytes ≤ room → rescue_of file room ≡ rescued (Accepted same)
+  answer_again : (room : ℕ) → k.bytes ≤ room → rescue_of file room ≡ rescued (Ok same)
   answer_again room fits =
       let held : (content_at file).table ≡ table_kept bs = ap (λ (c : Content). c.table) file_held in
       read_rescued file file_read room (omega (arith, bytes_told d))
@@ -376,7 +376,7 @@ pub again : Again
 again bs buffer r after p k good small buffer' r' later p' room =
     let d = done p good in
     let q : Rescue (file_of (kept bs)) buffer' r' later = rw (front_is d) at p' in
-    let is : r' ≡ Accepted (same d small) = rescued_injective r' (Accepted (same d small))
+    let is : r' ≡ Ok (same d small) = rescued_injective r' (Ok (same d small))
     (q.0 ∙ answer_again d small (length buffer') room) in
     let whole = whole_kept _ (read_passes _ (file_read d small)) in
     (is, front_is (done q is) ∙ ap file_of (whole ∙ file_held d small) ∙ sym (front_is d))
@@ -387,7 +387,7 @@ unfolding head_good judge
 empty_is_90 room = bad_head [] room refl
 
 pub sound_is_accepted : (c : Content) → SoundContent c → (buffer : List ℕ) → length (file_of c) ≤ length buffer
-    → Rescue (file_of c) buffer (Accepted record {
+    → Rescue (file_of c) buffer (Ok record {
       bytes = length (file_of c);
       statements = statements_of c.table;
       nodes = length c.table / 24;

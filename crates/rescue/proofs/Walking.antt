@@ -3,17 +3,17 @@
 -- soundness's `statement_parts`); the place of the child does not matter (soundness's `sound_anywhere` and
 -- `files_anywhere`, table's `flat_anywhere`). The invariant: the bytes done, and the leading keepable ones of the
 -- rest, are the leading keepable bytes of the whole. Each turn adds one child or stops. Assumes nothing.
+use Rattle.std.specs.Prelude.{None}
 use mathlib.Core.Path.{◌≡◌, refl, sym, ap, ◌∙◌}
 use mathlib.Core.Bool.{Bool, true, false, ◌&&◌, and-true}
 use mathlib.Core.List.{List, []}
 use Prim.Native.Nat.{ℕ, ◌+◌, ◌-◌, ◌*◌, ◌/◌, ◌<◌, ◌≤◌}
 use native.Mathlib.Omega.{arith}
-use lib.ListN.{length, take, drop}
+use lib.ListN.{length, take}
 use lib.Seq.{length-take-le, get_or-take}
 use Rattle.forest.specs.Forest.{node_of, span_of, kids_of, rest_of, Tree, Forest, none, ◌then◌, forest, tree_of, firsts}
 use Rattle.forest.specs.Forest.{count, count_tree}
-use Rattle.forest.specs.declared.Found.TheVariants.{Nothing}
-use Rattle.forest.proofs.Stretch.{tree, forest_none, forest_tree, count_forest, length_kids, length_rest, rest_part}
+use Rattle.forest.proofs.Stretch.{tree, forest_none, forest_tree, count_forest, length_kids, length_rest}
 use Rattle.forest.proofs.Prefix.{span_part, forest_part, firsts_count}
 use Rattle.soundness.specs.Kinds.{class_of}
 use Rattle.soundness.specs.Files.{any_file, files_top}
@@ -62,7 +62,7 @@ module _ (m : ℕ) (left : List ℕ) (big : 24 ≤ length left) (whole : 24 * (l
 
     flat_is_lem : clear (deep_in 1 child) ≡ clear (first_deep 1 (forest 0 c))
     unfolding first_deep
-    flat_is_lem = sym (clear_or (deep_in 1 child) Nothing ∙ and-true (clear (deep_in 1 child)))
+    flat_is_lem = sym (clear_or (deep_in 1 child) None ∙ and-true (clear (deep_in 1 child)))
         ∙ sym (ap (λ (f : Forest). clear (first_deep 1 f)) (child_forest i)) ∙ flat_anywhere i c 0 1
 
     class_is : class_of (node_of i left).kind ≡ class_of (node_of 0 c).kind
@@ -125,11 +125,10 @@ module _ {m : ℕ} {row left : List ℕ} {done : ℕ} (w : Walking m row left do
         ∙ leading_stop (keepable m) (tree_of (1 + done / 24) left) _ (k_test ∙ bad) in
         omega (arith, w.same)
 
-    pub walk_on : k ≡ true → Walking m row (take (length left - e) (drop e left)) (done + e)
+    pub walk_on : k ≡ true → {after : List ℕ} → after ≡ rest_of left → Walking m row after (done + e)
     unfolding count
-    walk_on good =
+    walk_on good rest =
         let next : ℕ = 1 + done / 24 + span_of left / 24 in
-        let rest : take (length left - e) (drop e left) ≡ rest_of left = rest_part e left e-is in
         let at : 1 + (done + e) / 24 ≡ next = omega (arith, w.at, w.whole) in
         let one : 24 * (1 + count (forest (1 + done / 24 + 1) (kids_of left))) ≡ e = omega
         (arith, count_forest (1 + done / 24 + 1) (kids_of left), length_kids left, w.whole) in

@@ -1,6 +1,6 @@
 -- The claims on the rescue, in the order of W-205, over the job's answer and the buffer at exit. proofs/Theorems.antt
 -- proves each of them. These are definitions.
-use Rattle.std.specs.Prelude.{◌≡◌, true, false, List, [], ℕ, ◌-◌, ◌/◌, ◌<◌, ◌≤◌, length, get_or, take, drop}
+use Rattle.std.specs.Prelude.{◌≡◌, true, false, List, [], ℕ, ◌-◌, ◌/◌, ◌<◌, ◌≤◌, length, get_or, take, drop, Err, Ok, Result}
 use Rattle.fields.proofs.Spelling.{Bytes}
 use Rattle.forest.specs.Forest.{record_bytes, node_of, roots}
 use Rattle.soundness.specs.KindNumbers.{kind_statements}
@@ -12,23 +12,20 @@ use Rattle.table.specs.declared.Refusal.TheVariants.{Bare}
 use Rattle.tablefile.specs.Reading.{header_at, content_at}
 use Rattle.tablefile.specs.Loading.{loaded_of}
 use Rattle.tablefile.specs.declared.Loaded.{Loaded}
-use Rattle.tablefile.specs.declared.Verdict.TheVariants as verdicts
 use Rattle.tablefile.proofs.Theorems.{Read}
 use Rattle.rescue.specs.declared.Kept.{Kept}
-use Rattle.rescue.specs.declared.Rescued.{Rescued}
-use Rattle.rescue.specs.declared.Rescued.TheVariants.{Accepted, Refused}
 use Rattle.rescue.specs.Good.{head_good, blocks_pass, good_table}
 use Rattle.rescue.specs.Cut.{children, cut_to}
 use Rattle.rescue.specs.Job.{table_kept, kept, statements_of, rescue_of, file_after, rescued}
 
 -- the promise of the job: the answer r, and the buffer at exit
-abbrev pub Rescue : List ℕ → List ℕ → Rescued → List ℕ → Type 0
+abbrev pub Rescue : List ℕ → List ℕ → Result Kept Refusal → List ℕ → Type 0
 Rescue bs buffer r after = (rescued r ≡ rescue_of bs (length buffer)) × (after ≡ file_after bs buffer)
 
 -- a property of every accepted rescue: of the input, of the counts, and of the buffer at exit
 abbrev pub Answered : (List ℕ → Kept → List ℕ → Type 0) → Type 0
-Answered P = (bs buffer : List ℕ) (r : Rescued) (after : List ℕ) → Rescue bs buffer r after
-    → (k : Kept) → r ≡ Accepted k → P bs k after
+Answered P = (bs buffer : List ℕ) (r : Result Kept Refusal) (after : List ℕ) → Rescue bs buffer r after
+    → (k : Kept) → r ≡ Ok k → P bs k after
 
 -- a number of leading children of a root Statements gives a cut table that passes 1 to 4. The children are those in
 -- good node blocks before the first bad or missing one, within the root's written size
@@ -49,8 +46,8 @@ LargestNumber = Answered (λ bs k after. blocks_pass bs ≡ false → Largest bs
 
 -- 2: 90 exactly if the header or a name block is bad
 abbrev pub BadHeader : Type 0
-BadHeader = (bs buffer : List ℕ) (r : Rescued) (after : List ℕ) → Rescue bs buffer r after
-    → (head_good bs ≡ false → r ≡ Refused (Bare bad_header)) × (r ≡ Refused (Bare bad_header) → head_good bs ≡ false)
+BadHeader = (bs buffer : List ℕ) (r : Result Kept Refusal) (after : List ℕ) → Rescue bs buffer r after
+    → (head_good bs ≡ false → r ≡ Err (Bare bad_header)) × (r ≡ Err (Bare bad_header) → head_good bs ≡ false)
 
 -- 3: 91 exactly if the header is good, the blocks do not pass, and no child can be kept
 pub record Nothing (bs : List ℕ) : Type 0 where
@@ -59,14 +56,14 @@ pub record Nothing (bs : List ℕ) : Type 0 where
   pub none : (j : ℕ) → 1 ≤ j → Passes bs j → ⊥
 
 abbrev pub NothingKept : Type 0
-NothingKept = (bs buffer : List ℕ) (r : Rescued) (after : List ℕ) → Rescue bs buffer r after
-    → (Nothing bs → r ≡ Refused (Bare nothing_kept)) × (r ≡ Refused (Bare nothing_kept) → Nothing bs)
+NothingKept = (bs buffer : List ℕ) (r : Result Kept Refusal) (after : List ℕ) → Rescue bs buffer r after
+    → (Nothing bs → r ≡ Err (Bare nothing_kept)) × (r ≡ Err (Bare nothing_kept) → Nothing bs)
 
 -- 4: the reader accepts the output, which holds the table that is kept, and names, dialect and edition of the header
 -- whole
 abbrev pub ReadBack : Type 0
 ReadBack = Answered (λ bs k after. Bytes bs → (s : Loaded) → Read (take k.bytes after) s
-    → s ≡ loaded_of verdicts.Accepted (kept bs) k.bytes)
+    → s ≡ loaded_of (Ok tt) (kept bs) k.bytes)
 
 -- 5: if the blocks pass, the output is these blocks, byte for byte, and no node is dropped
 pub record Whole (bs : List ℕ) (k : Kept) (after : List ℕ) : Type 0 where
@@ -78,9 +75,9 @@ GivenBack = Answered (λ bs k after. Bytes bs → blocks_pass bs ≡ true → Wh
 
 -- 6: a rescued file is rescued to itself, and nothing is dropped
 abbrev pub Again : Type 0
-Again = Answered (λ bs k after. Bytes bs → (next : List ℕ) (q : Rescued) (later : List ℕ)
+Again = Answered (λ bs k after. Bytes bs → (next : List ℕ) (q : Result Kept Refusal) (later : List ℕ)
     → Rescue (take k.bytes after) next q later → k.bytes ≤ length next
-    → (q ≡ Accepted record {
+    → (q ≡ Ok record {
       bytes = k.bytes;
       statements = k.statements;
       nodes = k.nodes;
@@ -105,6 +102,6 @@ Counts = Answered (λ bs k after. Counted bs k)
 
 -- 9: bytes past the output stay, and a refusal changes no byte
 abbrev pub PastStays : Type 0
-PastStays = (bs buffer : List ℕ) (r : Rescued) (after : List ℕ) → Rescue bs buffer r after
-    → ((k : Kept) → r ≡ Accepted k → drop k.bytes after ≡ drop k.bytes buffer)
-    × ((why : Refusal) → r ≡ Refused why → after ≡ buffer)
+PastStays = (bs buffer : List ℕ) (r : Result Kept Refusal) (after : List ℕ) → Rescue bs buffer r after
+    → ((k : Kept) → r ≡ Ok k → drop k.bytes after ≡ drop k.bytes buffer)
+    × ((why : Refusal) → r ≡ Err why → after ≡ buffer)

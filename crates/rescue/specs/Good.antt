@@ -1,10 +1,9 @@
 -- The good parts of a damaged file: the header with its names, the whole file, or the node blocks before the first bad
 -- one. These are definitions.
-use Rattle.std.specs.Prelude.{Bool, true, false, ◌&&◌, List, [], ℕ, ◌*◌, take, drop}
+use Rattle.std.specs.Prelude.{Bool, true, false, ◌&&◌, List, [], ℕ, ◌*◌, take, drop, None, Option, Some}
+use Rattle.dialect.specs.declared.Edition.{Edition}
+use Rattle.dialect.specs.declared.Dialect.{Dialect}
 use Rattle.dialect.specs.Bytes.{from_bytes}
-use Rattle.dialect.specs.declared.Decoded.{Decoded}
-use Rattle.dialect.specs.declared.EditionRead.{EditionRead}
-use Rattle.dialect.specs.declared.EditionRead.TheVariants.{Known, Unknown}
 use Rattle.forest.specs.Forest.{record_bytes}
 use Rattle.table.specs.Answer.{accepted, passes, and_then}
 use Rattle.table.specs.Check.{decoded, in_given}
@@ -13,13 +12,13 @@ use Rattle.blocks.specs.Run.{blocks_for, judge_run, good_blocks}
 use Rattle.tablefile.specs.Reading.{header_at, content_at, used_of, counts_fit, edition_read, front_check, sound_check}
 
 -- whether bytes are a dialect (5)
-abbrev pub is_dialect : Decoded → Bool
+abbrev pub is_dialect : Option Dialect → Bool
 is_dialect x = passes (in_given (decoded x) (λ _. accepted []))
 
 -- whether an edition holds (5)
-abbrev pub is_edition : EditionRead → Bool
-is_edition (Known e) = true
-is_edition Unknown = false
+abbrev pub is_edition : Option Edition → Bool
+is_edition (Some e) = true
+is_edition None = false
 
 -- the header: block 0, its counts (74), its dialect and its edition (5), and every name block
 unfoldable pub head_good : List ℕ → Bool

@@ -1,5 +1,6 @@
 -- Rescuing a damaged file: what is kept of it, the job's answer, and the buffer at exit. These are definitions.
-use Rattle.std.specs.Prelude.{List, [], ◌∷◌, ℕ, ◌-◌, ◌/◌, length, leb, eqb}
+use Rattle.std.specs.Prelude.{List, [], ◌∷◌, ℕ, ◌-◌, ◌/◌, length, leb, eqb, Err, Ok, Result}
+use Rattle.table.specs.declared.Refusal.{Refusal}
 use Rattle.fields.specs.Choice.{if'}
 use Rattle.forest.specs.Forest.{record_bytes, node_of, roots}
 use Rattle.soundness.specs.KindNumbers.{kind_statements}
@@ -10,8 +11,6 @@ use Rattle.tablefile.specs.File.{Content, file_of}
 use Rattle.tablefile.specs.Reading.{header_at, content_at}
 use Rattle.writer.specs.Writing.{holding, bytes_for, afterwards}
 use Rattle.rescue.specs.declared.Kept.{Kept}
-use Rattle.rescue.specs.declared.Rescued.{Rescued}
-use Rattle.rescue.specs.declared.Rescued.TheVariants.{Accepted, Refused}
 use Rattle.rescue.specs.Good.{head_good, blocks_pass, good_table}
 use Rattle.rescue.specs.Cut.{children, largest_cut}
 
@@ -53,6 +52,6 @@ file_after bs buffer = afterwards (rescue_of bs (length buffer)) (file_of (kept 
 abbrev pub told : Kept → List ℕ
 told k = k.bytes ∷ k.statements ∷ k.nodes ∷ k.dropped ∷ k.after ∷ []
 
-abbrev pub rescued : Rescued → Answer
-rescued (Accepted k) = accepted (told k)
-rescued (Refused r) = refusal r
+abbrev pub rescued : Result Kept Refusal → Answer
+rescued (Ok k) = accepted (told k)
+rescued (Err r) = refusal r

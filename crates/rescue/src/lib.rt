@@ -16,11 +16,10 @@ ghost use Rattle.rescue.specs.Job.{kept, statements_of, rescue_of, file_after, t
 ghost use Rattle.rescue.specs.Steps.{keepable, keepable_at, leading_bytes, kept_if, Front, Records};
 ghost use Rattle.rescue.specs.Steps.{good_bytes, Ready, Goods, Keeping};
 
-use blocks::{BLOCK_BYTES, Judged, bytes};
-use dialect::{Decoded, EditionRead};
-use forest::{Found, RECORD};
+use blocks::{BLOCK_BYTES, bytes};
+use forest::{Nodes, RECORD};
 use soundness::{classes, kinds};
-use table::{Checked, MOST_BYTES, MOST_NAMES, Refusal, numbers};
+use table::{MOST_BYTES, MOST_NAMES, Refusal, numbers};
 use tablefile::Heading;
 
 // The counts of a rescue: the bytes written, the statements and nodes kept, the nodes dropped of the header's number,
@@ -34,22 +33,15 @@ pub struct Kept {
     pub after: u64,
 }
 
-// The answer of the job: what is kept, or why nothing is.
-#[derive(Clone, Copy)]
-pub enum Rescued {
-    Accepted(Kept),
-    Refused(Refusal),
-}
-
 // Rescues a file. Refuses with 90 (bad header or name block), 91 (nothing can be kept), then 7 (the buffer is shorter
 // than the output). A refusal changes no byte, and bytes past the output stay.
-pub fn rescue(input: &[u8], file: &mut [u8]) -> Rescued
+pub fn rescue(input: &[u8], file: &mut [u8]) -> Result<Kept, Refusal>
     ensures result_value { rescued result ≡ rescue_of input.now (length file.old) }
     ensures file_after { file.new ≡ file_after input.now file.old }
 {
     let h = tablefile::header(input);
     if !head_good(input, h) {
-        return Rescued::Refused(Refusal::Bare(numbers::BAD_HEADER));
+        return Err(Refusal::Bare(numbers::BAD_HEADER));
     }
     let n = h.names;
     let mut names = [0u8; MOST_NAMES];
@@ -58,7 +50,7 @@ pub fn rescue(input: &[u8], file: &mut [u8]) -> Rescued
 }
 
 // Reads the records in good node blocks of a file whose header is good, and rescues them.
-fn rescue_named(input: &[u8], h: Heading, names: &[u8], file: &mut [u8]) -> Rescued
+fn rescue_named(input: &[u8], h: Heading, names: &[u8], file: &mut [u8]) -> Result<Kept, Refusal>
     requires { Ready input.now h names.now }
     ensures result_value { rescued result ≡ rescue_of input.now (length file.old) }
     ensures file_after { file.new ≡ file_after input.now file.old }
@@ -71,7 +63,13 @@ fn rescue_named(input: &[u8], h: Heading, names: &[u8], file: &mut [u8]) -> Resc
 }
 
 // The same, for the records in good node blocks: all are kept if they pass, else the largest cut; 91 if there is none.
-fn rescue_good(input: &[u8], h: Heading, names: &[u8], table: &mut [u8], file: &mut [u8]) -> Rescued
+fn rescue_good(
+    input: &[u8],
+    h: Heading,
+    names: &[u8],
+    table: &mut [u8],
+    file: &mut [u8],
+) -> Result<Kept, Refusal>
     requires { Goods input.now h names.now table.old }
     ensures result_value { rescued result ≡ rescue_of input.now (length file.old) }
     ensures file_after { file.new ≡ file_after input.now file.old }
@@ -79,7 +77,7 @@ fn rescue_good(input: &[u8], h: Heading, names: &[u8], table: &mut [u8], file: &
     let whole = all_sound(table, names, h.nodes);
     let kept = keep(table, names, whole);
     if kept == 0 {
-        return Rescued::Refused(Refusal::Bare(numbers::NOTHING_KEPT));
+        return Err(Refusal::Bare(numbers::NOTHING_KEPT));
     }
     finish(input, h, names, &table[0..kept], whole, file)
 }
@@ -90,7 +88,7 @@ fn head_good(input: &[u8], h: Heading) -> bool
     ensures { result ≡ head_good input.now }
 {
     let zero = blocks::judge(input, 0, 4 + h.dialect + h.edition);
-    if let Judged::Refused(_) = zero {
+    if let Err(_) = zero {
         return false;
     }
     if !tablefile::counts_fit(h.nodes, h.names) {
@@ -98,17 +96,17 @@ fn head_good(input: &[u8], h: Heading) -> bool
     }
     let bytes = tablefile::dialect_bytes(input);
     let read = dialect::from_bytes(bytes);
-    if let Decoded::Invalid = read {
+    if let None = read {
         return false;
     }
     let edition = dialect::edition_held(bytes, tablefile::stated_edition(input));
-    if let EditionRead::Unknown = edition {
+    if let None = edition {
         return false;
     }
     let names = blocks::judge_run(&input[BLOCK_BYTES..], 1, h.names);
     match names {
-        Judged::Passed => true,
-        Judged::Refused(_) => false,
+        Ok(()) => true,
+        Err(_) => false,
     }
 }
 
@@ -118,16 +116,14 @@ fn good_bytes(bytes: &[u8], first: usize, total: usize) -> usize
     ensures { result ≡ good_bytes first total bytes.now }
 {
     let mut left = bytes;
-    let mut number = first;
     let mut done = 0;
-    while done < total {
+    for number in first..first + blocks::blocks_for(total) {
         let used = blocks::used_here(total - done);
         let here = blocks::judge(left, number, used);
-        if let Judged::Refused(_) = here {
+        if let Err(_) = here {
             return done;
         }
         left = &left[BLOCK_BYTES..];
-        number += 1;
         done += used;
     }
     done
@@ -163,8 +159,8 @@ fn sound(table: &[u8], names: &[u8]) -> bool
 {
     let found = table::check(table, names);
     match found {
-        Checked::Sound => true,
-        Checked::Refused(_) => false,
+        Ok(()) => true,
+        Err(_) => false,
     }
 }
 
@@ -197,14 +193,12 @@ fn leading(row: &[u8], names: usize) -> usize
     ensures { (result ≡ leading_bytes (keepable names) (forest 1 row.now))
         × (result ≤ length row.now) }
 {
-    let mut left = row;
     let mut done = 0;
-    while RECORD <= left.len() {
+    for (_, left) in (Nodes { at: 0, left: row }) {
         let e = forest::span(left);
         if !can_keep(&left[0..e], names) {
             return done;
         }
-        left = &left[e..];
         done += e;
     }
     done
@@ -219,13 +213,13 @@ fn can_keep(child: &[u8], names: usize) -> bool
         return false;
     }
     let unsound = soundness::first_unsound_in(child, names);
-    if let Found::At(_) = unsound {
+    if let Some(_) = unsound {
         return false;
     }
     let deep = table::deep_under_root(child);
     match deep {
-        Found::At(_) => false,
-        Found::Nothing => true,
+        Some(_) => false,
+        None => true,
     }
 }
 
@@ -246,7 +240,7 @@ fn finish(
     table: &[u8],
     whole: bool,
     file: &mut [u8],
-) -> Rescued
+) -> Result<Kept, Refusal>
     requires { Keeping input.now h names.now table.now whole }
     ensures result_value { rescued result ≡ rescue_of input.now (length file.old) }
     ensures file_after { file.new ≡ file_after input.now file.old }
@@ -254,10 +248,10 @@ fn finish(
     let size = BLOCK_BYTES
         * (1 + blocks::blocks_for(names.len()) + blocks::blocks_for(table.len()));
     if file.len() < size {
-        return Rescued::Refused(Refusal::Bare(numbers::SHORT_BUFFER));
+        return Err(Refusal::Bare(numbers::SHORT_BUFFER));
     }
     put_kept(input, h, names, table, whole, file);
-    Rescued::Accepted(tell(input, h, table, size as u32))
+    Ok(tell(input, h, table, size as u32))
 }
 
 // Writes the file of the table that is kept at the front of a buffer. If all is kept, it is the header's blocks:
@@ -326,12 +320,5 @@ fn count(row: &[u8]) -> usize
     ensures { (result ≡ length (roots (forest 1 row.now))) ×
         (record_bytes * result ≤ length row.now) }
 {
-    let mut left = row;
-    let mut n = 0;
-    while RECORD <= left.len() {
-        let e = forest::span(left);
-        left = &left[e..];
-        n += 1;
-    }
-    n
+    Nodes { at: 0, left: row }.count()
 }

@@ -11,8 +11,8 @@ use Prim.Native.Nat.{ℕ, ◌+◌, ◌-◌, ◌/◌, ◌<◌, ◌≤◌}
 use native.Mathlib.Omega.{arith}
 use lib.ListN.{length, take, drop, set, length-set}
 use borrow.Author.Tests.{eq-eqb, ne_eqb}
-use Rattle.forest.specs.Forest.{node_of, span_of, Tree, forest, tree_of}
-use Rattle.forest.proofs.Stretch.{forest_none, kids_part, rest_part, length_kids, length_rest}
+use Rattle.forest.specs.Forest.{node_of, span_of, rest_of, Tree, forest, tree_of}
+use Rattle.forest.proofs.Stretch.{forest_none, kids_part, length_kids, length_rest}
 use Rattle.soundness.specs.KindNumbers.{kind_list}
 use Rattle.types.specs.Forms.{form_of, shape_of, list_shape, reads_as, reads_of, rule_of}
 use Rattle.types.specs.Forms.{arguments_only, of_child}
@@ -126,18 +126,18 @@ module _ {others : How} {t : List ℕ} {i : ℕ} {whole : List ℕ} {size : ℕ}
   each_falls = falls t left w.part
 
   pub each_on : 24 ≤ length left → {u : List ℕ} → u ≡ written (shapes_child how (tree_of place left)) s
-      → {e : ℕ} → e ≡ span_of left
-      → Writing others t i whole size (take (length left - e) (drop e left)) (place + e / 24) others u
+      → {next : ℕ} {after : List ℕ} → next ≡ place + span_of left / 24 → after ≡ rest_of left
+      → Writing others t i whole size after next others u
   unfolding shapes_of
-  each_on big u-is {e} e-is = record {
-    room = rw (rest_part e left e-is, u-is, written_length (shapes_child how (tree_of place left)) s)
+  each_on big u-is next-is after-is = record {
+    room = rw (next-is, after-is, u-is, written_length (shapes_child how (tree_of place left)) s)
         (omega (arith, length_rest left, w.room));
-    upto = rw (rest_part e left e-is) (omega (arith, length_rest left, w.upto));
-    part = rw (rest_part e left e-is) (omega (arith, length_rest left, w.part));
+    upto = rw (next-is, after-is) (omega (arith, length_rest left, w.upto));
+    part = rw after-is (omega (arith, length_rest left, w.part));
     long = rw u-is (written_length (shapes_child how (tree_of place left)) s ∙ w.long);
     same = rw u-is (sym (written_append (shapes_child how (tree_of place left)) _ s)
         ∙ ap (λ (ss : List Shape). written ss s) (sym (first_and_rest shapes_each shapes_child (λ x y. x ++ y)
-        (λ z x ts. refl) (reads_as how others) place left big e-is)) ∙ w.same);
+        (λ z x ts. refl) (reads_as how others) place left big next-is after-is)) ∙ w.same);
   }
 
 -- the buffer keeps the length that it had before the node's own shape was set

@@ -8,7 +8,7 @@ ghost use Rattle.table.specs.Answer.{is_refused};
 ghost use Rattle.types.specs.Jobs.{shaped, type_shape_of};
 ghost use Rattle.shapes.specs.Jobs.{shapes_after};
 
-use types::Shaped;
+use table::Refusal;
 
 // The type job: whether a node is a type in a dialect and an edition, which is given by its number. If it is, the shape
 // of each node that is read as a type or argument is written into the buffer; a refusal changes nothing.
@@ -19,7 +19,7 @@ pub fn type_shape(
     edition: u32,
     node: usize,
     shapes: &mut [u8],
-) -> Shaped
+) -> Result<(), Refusal>
     ensures result_value { shaped result ≡
         type_shape_of table.now names.now dialect.now edition node
         (length shapes.old) }
@@ -37,11 +37,11 @@ pub fn type_shape(
 }
 
 // Whether an answer is a refusal.
-fn is_refused(answer: Shaped) -> bool
+fn is_refused(answer: Result<(), Refusal>) -> bool
     ensures { result ≡ is_refused (shaped answer) }
 {
     match answer {
-        Shaped::Accepted => false,
-        Shaped::Refused(_) => true,
+        Ok(()) => false,
+        Err(_) => true,
     }
 }

@@ -9,7 +9,7 @@ ghost use Rattle.forest.specs.Forest.{record_bytes, node_of, tree_of};
 ghost use Rattle.soundness.specs.KindNumbers.{kind_list};
 ghost use Rattle.shapes.specs.Shapes.{shapes_of, shapes_argument, written};
 
-use forest::RECORD;
+use forest::{Nodes, RECORD};
 use soundness::kinds;
 use types::{How, forms};
 
@@ -28,16 +28,13 @@ pub(crate) fn write(t: &[u8], at: usize, shapes: &mut [u8])
     shapes[at] = shape;
     let reads = forms::reads_of(form);
     let e = forest::span(t);
-    let mut left = &t[RECORD..e];
-    let mut place = at + 1;
     let mut how = reads.first;
-    while RECORD <= left.len() {
-        let child = left;
-        let here = place;
+    let first = at + 1;
+    for (here, child) in (Nodes {
+        at: first,
+        left: &t[RECORD..e],
+    }) {
         let rule = forms::rule_of(how, forest::kind(child));
-        let child_bytes = forest::span(child);
-        left = &child[child_bytes..];
-        place += child_bytes / RECORD;
         how = reads.others;
         match rule {
             How::Unread => {}
@@ -59,14 +56,10 @@ fn write_argument(t: &[u8], at: usize, shapes: &mut [u8])
 {
     shapes[at] = LIST;
     let e = forest::span(t);
-    let mut left = &t[RECORD..e];
-    let mut place = at + 1;
-    while RECORD <= left.len() {
-        let item = left;
-        let here = place;
-        let item_bytes = forest::span(item);
-        left = &item[item_bytes..];
-        place += item_bytes / RECORD;
+    for (here, item) in (Nodes {
+        at: at + 1,
+        left: &t[RECORD..e],
+    }) {
         if forest::kind(item) == kinds::LIST {
             write_argument(item, here, shapes);
         } else {

@@ -5,6 +5,7 @@
 -- number (`statement_is`). Any other root is one statement. Where the end of the table cuts a statement, both ways go
 -- to the end, so sizes need not be sound. Cite `clean_files`, `clean_exactly`, and for a node of a clean table
 -- `subtree_file`. Assumes nothing.
+use Rattle.std.specs.Prelude.{None}
 use mathlib.Core.Path.{◌≡◌, refl, sym, ap, ◌∙◌}
 use mathlib.Core.Bool.{Bool, true, false, ◌&&◌, and_assoc, and-true, and-false}
 use mathlib.Core.List.{List, [], ◌∷◌, ◌++◌}
@@ -20,7 +21,6 @@ use Rattle.fields.specs.Choice.{if'}
 use Rattle.fields.proofs.Basics.{clash, and_both, and_left, and_right, le_or_lt}
 use Rattle.forest.specs.Forest.{Node, size_of, span_of, kids_of, rest_of, Tree, node, Forest, none, ◌then◌}
 use Rattle.forest.specs.Forest.{forest, nodes, nodes_of}
-use Rattle.forest.specs.declared.Found.TheVariants.{Nothing}
 use Rattle.forest.proofs.Stretch.{records, nodes_records, forest_none, forest_tree, length_kids, length_rest}
 use Rattle.forest.proofs.Stretch.{record_or_none, kids_records}
 use Rattle.soundness.specs.Kinds.{kind_of, class_of}
@@ -241,7 +241,7 @@ most_number f n e = leb-true n f.most (and_right (leb f.least n) _ e)
 
 -- a table of no record
 module _ (t names : List ℕ) (short : length t < 24) where
-  short_clean : first_unsound t names ≡ Nothing
+  short_clean : first_unsound t names ≡ None
   unfolding first_unsound first_false
   short_clean = let no : length t / 24 ≡ 0 = omega arith in rw no refl
 
@@ -250,7 +250,7 @@ module _ (t names : List ℕ) (short : length t < 24) where
   short_files = rw (forest_none 0 t short) refl
 
 -- THEOREM: the file numbers of a table with no unsound record are sound down the tree
-module _ (t names : List ℕ) (e : first_unsound t names ≡ Nothing) where
+module _ (t names : List ℕ) (e : first_unsound t names ≡ None) where
   pub clean_fits : (j : ℕ) → j < length t / 24 → fits t j ≡ true
   unfolding record_sound context_of sound_at
   clean_fits j h = node_file (context_of t names j) (record_at t j) (forest (j + 1) (kids_of (drop (24 * j) t)))
@@ -265,7 +265,7 @@ module _ (t names : List ℕ) (e : first_unsound t names ≡ Nothing) where
 -- where the numbers are sound down the tree
 module _ (t names : List ℕ) (root : root_sound t ≡ true) (else : (i : ℕ) → i < length t / 24
     → sound_at (context (length names) any_file) i (drop (24 * i) t) ≡ true) where
-  fits_clean : all_fit t 0 (length t / 24) ≡ true → first_unsound t names ≡ Nothing
+  fits_clean : all_fit t 0 (length t / 24) ≡ true → first_unsound t names ≡ None
   unfolding first_unsound record_sound context_of sound_at
   fits_clean f = all_found (record_sound t names) (length t / 24) (λ j h. and_both _ _ (go (eqb j 0))
       (node_numbers (length names) any_file (files_of t j) (record_at t j) (forest (j + 1) (kids_of (drop (24 * j) t)))
@@ -275,16 +275,16 @@ module _ (t names : List ℕ) (root : root_sound t ≡ true) (else : (i : ℕ) �
       go true = root
       go false = refl
 
-  pub files_clean : files_sound (forest 0 t) ≡ true → first_unsound t names ≡ Nothing
+  pub files_clean : files_sound (forest 0 t) ≡ true → first_unsound t names ≡ None
   files_clean s = record_or_none t (short_clean t names)
       (λ some. fits_clean (sym (sound_fits t (sound_covers t root) some) ∙ s))
 
-  pub clean_exactly : (first_unsound t names ≡ Nothing → files_sound (forest 0 t) ≡ true)
-      × (files_sound (forest 0 t) ≡ true → first_unsound t names ≡ Nothing)
+  pub clean_exactly : (first_unsound t names ≡ None → files_sound (forest 0 t) ≡ true)
+      × (files_sound (forest 0 t) ≡ true → first_unsound t names ≡ None)
   clean_exactly = (clean_files t names, files_clean)
 
 -- LAW: in a table with no unsound record the records of a node's subtree have its number, but for a root Statements
-module _ (t names : List ℕ) (e : first_unsound t names ≡ Nothing) where
+module _ (t names : List ℕ) (e : first_unsound t names ≡ None) where
   -- a record has the number of the statement that it is in
   top_file : (j : ℕ) → j < length t / 24 → (record_at t j).file ≡ (record_at t (top_of t j)).file
   top_file j h = ⊎_elim

@@ -5,6 +5,7 @@
 -- sound with any number and the numbers are those of a top-level statement (`statement_parts`; the induction is on the
 -- records under it). The last two do not depend on the index of the first record (sound_anywhere, `files_anywhere`).
 -- Assumes nothing.
+use Rattle.std.specs.Prelude.{None}
 use mathlib.Core.Path.{◌≡◌, refl, sym, ap, ◌∙◌}
 use mathlib.Core.Bool.{Bool, true, false, ◌&&◌, and-false}
 use mathlib.Core.List.{List}
@@ -16,7 +17,6 @@ use borrow.Author.Tests.{le-leb, ne_eqb}
 use Rattle.fields.specs.Choice.{if'}
 use Rattle.fields.proofs.Basics.{and_both, and_left, and_right, both_ways}
 use Rattle.forest.specs.Forest.{Node, node_of, span_of, kids_of, rest_of, Forest, none, forest}
-use Rattle.forest.specs.declared.Found.TheVariants.{Nothing}
 use Rattle.forest.proofs.Stretch.{forest_none, forest_tree, forest_induction, length_rest}
 use Rattle.soundness.specs.Files.{Range, range, file_numbers, any_file, file_sound, record_at, files_in, files_top}
 use Rattle.soundness.specs.Files.{files_sound}
@@ -42,7 +42,7 @@ node_parts m f r ks few = both_ways _ _
 
 -- LAWS: a table with no unsound record, by parts
 module _ (t names : List ℕ) where
-  any_sound : first_unsound t names ≡ Nothing → (j : ℕ) → j < length t / 24
+  any_sound : first_unsound t names ≡ None → (j : ℕ) → j < length t / 24
       → sound_at (context (length names) any_file) j (drop (24 * j) t) ≡ true
   unfolding record_sound context_of sound_at
   any_sound e j h =
@@ -51,7 +51,7 @@ module _ (t names : List ℕ) where
       (and_right (if' (eqb j 0) (λ _. root_sound t) (λ _. true)) _ (record_clean t names e j h))
       (any_number_lem (record_at t j).file (omega arith))
 
-  pub clean_any : first_unsound t names ≡ Nothing → 24 ≤ length t
+  pub clean_any : first_unsound t names ≡ None → 24 ≤ length t
       → Sound (λ i. context (length names) any_file) 0 t
   unfolding sound_in
   clean_any e some =
@@ -63,7 +63,7 @@ module _ (t names : List ℕ) where
       }
 
   pub any_clean : root_sound t ≡ true → Sound (λ i. context (length names) any_file) 0 t
-      → files_sound (forest 0 t) ≡ true → first_unsound t names ≡ Nothing
+      → files_sound (forest 0 t) ≡ true → first_unsound t names ≡ None
   unfolding sound_in
   any_clean root s files =
       let covers = sound_covers t root in

@@ -1,8 +1,9 @@
 -- Laws of the rule of a record with its children, in the terms of code. Children are counted and judged one by one, and
--- those that are left decide (`Counting`, `Fitting`). A record is judged by its fields, its size and its children
--- (`record_fields`, `record_size`, `record_kids`), wherever it is (`sound_index`). The loop over the records keeps
--- the top-level statement of the record before: of a table (`Going`, with Tops), or of one statement, which does not
--- end (`Judging`); in both the records that are left decide (`Searching`). Assumes nothing.
+-- those that are left decide (`classes_counted`, `Fitting`). A record is judged by its fields, its size and its
+-- children (`record_fields`, `record_size`, `record_kids`), wherever it is (`sound_index`). The loop over the records
+-- keeps the top-level statement of the record before: of a table (`Going`, with Tops), or of one statement, which does
+-- not end (`Judging`); in both the records that are left decide (`Searching`). Assumes nothing.
+use Rattle.std.specs.Prelude.{None, Option, Some, ℕ}
 use mathlib.Core.Path.{◌≡◌, refl, sym, ap, ◌∙◌}
 use mathlib.Core.Bool.{Bool, true, false, ◌&&◌, and-false}
 use mathlib.Core.List.{List, [], ◌∷◌}
@@ -17,9 +18,12 @@ use Rattle.fields.proofs.Basics.{and_left, and_right, never}
 use Rattle.fields.specs.Choice.{if'}
 use Rattle.forest.specs.Forest.{Node, size_of, node_of, span_of, kids_of, rest_of, forest, count}
 use Rattle.forest.specs.Names.{same}
-use Rattle.forest.specs.declared.Found.{Found}
-use Rattle.forest.specs.declared.Found.TheVariants.{At, Nothing}
 use Rattle.fields.proofs.Fields.{tail_part}
+use Rattle.forest.proofs.Drained.{drained, there_left, rest_left}
+use Rattle.forest.specs.Nodes.{NextNode}
+use Rattle.forest.specs.declared.Nodes.{Nodes}
+use Rattle.std.specs.Iterator.{Drains}
+use denote.Ref.{Bor}
 use Rattle.forest.proofs.Stretch.{forest_none, forest_tree, forest_induction, count_forest, length_kids}
 use Rattle.forest.proofs.Stretch.{length_rest, kids_part, rest_part, node_take, size_take}
 use Rattle.forest.proofs.Named.{same_length}
@@ -77,26 +81,15 @@ module _ {e : ℕ} (bs : List ℕ) (big : 24 ≤ length bs) (h : e ≡ span_of b
     rest_part e bs h,
   ) refl
 
--- counting the nodes side by side: n are counted, and left are those that are not
-pub record Counting (t left : List ℕ) (n : ℕ) : Type 0 where
-  pub room : 24 * n + length left ≤ length t
-  pub all : length (classes (forest 0 t)) ≡ n + length (classes (forest 0 left))
-
-pub count_start : (t : List ℕ) → Counting t t 0
-count_start t = record { room = omega arith; all = omega arith }
-
-module _ {t left : List ℕ} {n : ℕ} (s : Counting t left n) where
-  pub count_on : {e : ℕ} → 24 ≤ length left → e ≡ span_of left
-      → Counting t (take (length left - e) (drop e left)) (n + 1)
-  count_on {e} big h = record {
-    room = simp (length-take, length-drop) (omega (arith, s.room));
-    all = omega (arith, s.all, ap length (classes_cut left big h));
-  }
-
-  pub count_end : length left < 24 → n ≡ length (classes (forest 0 t))
-  unfolding classes
-  count_end h = let none_left : length (classes (forest 0 left)) ≡ 0 = rw (forest_none 0 left h) refl in
-      omega (arith, s.all)
+-- a walk gives a node for each class
+pub classes_counted : (xs : List (ℕ × Bor (List ℕ))) (s : Nodes) → Drains NextNode s xs
+    → length xs ≡ length (classes (forest 0 s.left.now))
+unfolding classes
+classes_counted xs s given =
+    drained NextNode (λ (i : ℕ) (u : Nodes). length (classes (forest i u.left.now)))
+    (λ i u v short. rw (forest_none i u.left.now short) refl)
+    (λ i u x v on.
+    (i + span_of u.left.now / 24, rw (forest_tree i u.left.now (there_left on), rest_left on) refl)) xs 0 s given
 
 -- what children a rule permits, as the two tests of code
 permits_tests : (c : Children) (cs : List ℕ)
@@ -379,7 +372,7 @@ sound_covers t e = eqb-true (24 * size_of t) (length t) (and_right (eqb (class_o
 
 -- where the root is not sound
 pub root_first : (t names : List ℕ) {b : Bool} → b ≡ root_sound t → b ≡ false → 24 ≤ length t
-    → At 0 ≡ first_unsound t names
+    → Some 0 ≡ first_unsound t names
 unfolding first_unsound record_sound
 root_first t names b_is b-no big =
     let bad : root_sound t ≡ false = cc in
@@ -394,7 +387,7 @@ pub going_start : (t names : List ℕ) (n : ℕ) {end : ℕ} → end ≡ root_en
 going_start t names n e = record { looking = look_start (record_sound t names) n; placed = place_start t n e }
 
 pub going_end : {t names : List ℕ} {n i end file : ℕ} → Going t names n i end file → n ≤ i
-    → Nothing ≡ first_false (record_sound t names) 0 n
+    → None ≡ first_false (record_sound t names) 0 n
 going_end s h = look_end s.looking h
 
 -- a table from record i on, as code lends it
@@ -423,7 +416,7 @@ module _ (t names : List ℕ) {b : Bool} (b_is : b ≡ root_sound t) (b-yes : b 
       go true = rw root_yes refl
       go false = refl
 
-  pub record_here : r ≡ false → At i ≡ first_false (record_sound t names) 0 (length t / 24)
+  pub record_here : r ≡ false → Some i ≡ first_false (record_sound t names) 0 (length t / 24)
   record_here e = look_here s.looking h (tested ∙ e)
 
   pub record_on : r ≡ true → Going t names (length t / 24) (i + 1) later own
@@ -480,7 +473,7 @@ module _ {names : ℕ} {bs : List ℕ} {n i end file : ℕ} (s : Judging names b
     judge_test = rw judge_numbers (sound_index (context names (range least most)) (drop (24 * i) bs) i
         ∙ ap (sound_at (context names (range least most)) 0) (sym (tail_part (24 * i) bs)) ∙ sym r-is)
 
-    judge_here : r ≡ false → At i ≡ first_false (sound_in (context_in names bs) bs) 0 n
+    judge_here : r ≡ false → Some i ≡ first_false (sound_in (context_in names bs) bs) 0 n
     judge_here e = look_here s.looking h (judge_test ∙ e)
 
     judge_on : r ≡ true → {next : ℕ} → next ≡ max later n → Judging names bs n (i + 1) next own
@@ -504,7 +497,7 @@ search_start t names first whole n = record {
 
 module _ {t : List ℕ} {names first whole i end file : ℕ}
     (s : Searching t names first whole (length t / 24) i end file) where
-  pub search_end : length t / 24 ≤ i → Searched t names first whole Nothing
+  pub search_end : length t / 24 ≤ i → Searched t names first whole None
   unfolding unsound_in first_unsound
   search_end h = record {
     alone = λ first_is whole_is. look_end (s.alone first_is whole_is).looking h;
@@ -518,7 +511,7 @@ module _ {t : List ℕ} {names first whole i end file : ℕ}
         → r ≡ sound_at (context (length ns) (range least most)) 0 (lent t i)
     told_of_lem ns names_are = rw names_are at r-is
 
-    pub search_here : r ≡ false → Searched t names first whole (At i)
+    pub search_here : r ≡ false → Searched t names first whole (Some i)
     unfolding unsound_in first_unsound
     search_here e = record {
       alone = λ first_is whole_is. judge_here (s.alone first_is whole_is) h turned r-is e;
@@ -540,10 +533,10 @@ module _ {t : List ℕ} {names first whole i end file : ℕ}
     }
 
 -- what the two searches find
-pub table_found : (t ns : List ℕ) {first : ℕ} {b : Bool} {r : Found} → Searched t (length ns) first 0 r
+pub table_found : (t ns : List ℕ) {first : ℕ} {b : Bool} {r : Option ℕ} → Searched t (length ns) first 0 r
     → first ≡ root_end t → b ≡ root_sound t → b ≡ true → r ≡ first_unsound t ns
 table_found t ns s first_is b_is b-yes = s.table first_is refl (sym b_is ∙ b-yes) ns refl
 
-pub statement_found : (bs : List ℕ) (names : ℕ) {r : Found} → Searched bs names 0 (length bs / 24) r
+pub statement_found : (bs : List ℕ) (names : ℕ) {r : Option ℕ} → Searched bs names 0 (length bs / 24) r
     → r ≡ unsound_in names bs
 statement_found bs names s = s.alone refl refl

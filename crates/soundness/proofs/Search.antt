@@ -3,6 +3,7 @@
 -- name says: if it finds none, the test holds everywhere (`none_found_lem`), and the other way round (`all_found`);
 -- if it finds k, the test fails at k and holds before it (`found`, the record `First`). The induction is on the count
 -- of numbers that are left. Assumes nothing.
+use Rattle.std.specs.Prelude.{None, Option, Some, ℕ}
 use mathlib.Core.Path.{◌≡◌, refl, sym, ◌∙◌}
 use mathlib.Core.Bool.{Bool, true, false}
 use Prim.Native.Nat.{ℕ, zero, suc, ◌+◌, ◌-◌, ◌<◌, ◌≤◌}
@@ -11,15 +12,13 @@ use native.Mathlib.Omega.{arith}
 use lib.Dec.{eqb}
 use borrow.Author.Tests.{eqb-true, eqb-false}
 use Rattle.fields.proofs.Basics.{never, clash}
-use Rattle.forest.specs.declared.Found.{Found}
-use Rattle.forest.specs.declared.Found.TheVariants.{At, Nothing}
 use Rattle.soundness.specs.Sound.{first_false, clear}
 
 first_on : (p : ℕ → Bool) (i n : ℕ) → p i ≡ true → first_false p i (suc n) ≡ first_false p (i + 1) n
 unfolding first_false
 first_on p i n e = rw e refl
 
-first_here : (p : ℕ → Bool) (i n : ℕ) → p i ≡ false → first_false p i (suc n) ≡ At i
+first_here : (p : ℕ → Bool) (i n : ℕ) → p i ≡ false → first_false p i (suc n) ≡ Some i
 unfolding first_false
 first_here p i n e = rw e refl
 
@@ -36,45 +35,45 @@ module _ {p : ℕ → Bool} {n i : ℕ} (s : Looking p n i) where
   look_on h e = let m : n - i ≡ suc (n - (i + 1)) = omega arith in
       record { upto = omega arith; rest = sym (first_on p i (n - (i + 1)) e) ∙ (rw m at s.rest) }
 
-  pub look_here : i < n → p i ≡ false → At i ≡ first_false p 0 n
+  pub look_here : i < n → p i ≡ false → Some i ≡ first_false p 0 n
   look_here h e = let m : n - i ≡ suc (n - (i + 1)) = omega arith in
       sym (first_here p i (n - (i + 1)) e) ∙ (rw m at s.rest)
 
-  pub look_end : n ≤ i → Nothing ≡ first_false p 0 n
+  pub look_end : n ≤ i → None ≡ first_false p 0 n
   unfolding first_false
   look_end h = let m : n - i ≡ 0 = omega arith in rw m at s.rest
 
-pub clear_is : (x : Found) → clear x ≡ true → x ≡ Nothing
-clear_is (At i) e = clash e refl
-clear_is Nothing e = refl
+pub clear_is : (x : Option ℕ) → clear x ≡ true → x ≡ None
+clear_is (Some i) e = clash e refl
+clear_is None e = refl
 
 -- LAW: where none is found, the test holds everywhere; where one is found, it fails there and holds before
-none_from : (p : ℕ → Bool) (n i : ℕ) → first_false p i n ≡ Nothing → (j : ℕ) → i ≤ j → j < i + n → p j ≡ true
+none_from : (p : ℕ → Bool) (n i : ℕ) → first_false p i n ≡ None → (j : ℕ) → i ≤ j → j < i + n → p j ≡ true
 none_from p zero i e j h g = absurd (omega arith)
 none_from p (suc n) i e j h g = split (p i) refl (λ t. none_from p n (i + 1) t j)
   where
-    later : (first_false p (i + 1) n ≡ Nothing → i + 1 ≤ j → j < i + 1 + n → p j ≡ true) → p i ≡ true → (b : Bool)
+    later : (first_false p (i + 1) n ≡ None → i + 1 ≤ j → j < i + 1 + n → p j ≡ true) → p i ≡ true → (b : Bool)
         → eqb i j ≡ b → p j ≡ true
     later rest t true same = let at : i ≡ j = eqb-true i j same in rw (← at) t
     later rest t false apart = let d : i ≡ j → ⊥ = eqb-false i j apart in
         rest (sym (first_on p i n t) ∙ e) (omega arith) (omega arith)
 
-    split : (b : Bool) → p i ≡ b → (first_false p (i + 1) n ≡ Nothing → i + 1 ≤ j → j < i + 1 + n → p j ≡ true)
+    split : (b : Bool) → p i ≡ b → (first_false p (i + 1) n ≡ None → i + 1 ≤ j → j < i + 1 + n → p j ≡ true)
         → p j ≡ true
     split true t rest = later rest t (eqb i j) refl
     split false t rest = never (cc (first_here p i n t))
 
-pub none_found_lem : (p : ℕ → Bool) (n : ℕ) → first_false p 0 n ≡ Nothing → (j : ℕ) → j < n → p j ≡ true
+pub none_found_lem : (p : ℕ → Bool) (n : ℕ) → first_false p 0 n ≡ None → (j : ℕ) → j < n → p j ≡ true
 none_found_lem p n e j h = none_from p n 0 e j (omega arith) (omega arith)
 
 -- and where it holds everywhere, none is found
-all_from : (p : ℕ → Bool) (n i : ℕ) → ((j : ℕ) → i ≤ j → j < i + n → p j ≡ true) → first_false p i n ≡ Nothing
+all_from : (p : ℕ → Bool) (n i : ℕ) → ((j : ℕ) → i ≤ j → j < i + n → p j ≡ true) → first_false p i n ≡ None
 unfolding first_false
 all_from p zero i holds = refl
 all_from p (suc n) i holds = first_on p i n (holds i (omega arith) (omega arith))
     ∙ all_from p n (i + 1) (λ j h k. holds j (omega arith) (omega arith))
 
-pub all_found : (p : ℕ → Bool) (n : ℕ) → ((j : ℕ) → j < n → p j ≡ true) → first_false p 0 n ≡ Nothing
+pub all_found : (p : ℕ → Bool) (n : ℕ) → ((j : ℕ) → j < n → p j ≡ true) → first_false p 0 n ≡ None
 all_found p n holds = all_from p n 0 (λ j h k. holds j (omega arith))
 
 pub record First (p : ℕ → Bool) (i n k : ℕ) : Type 0 where
@@ -83,7 +82,7 @@ pub record First (p : ℕ → Bool) (i n k : ℕ) : Type 0 where
   pub fails : p k ≡ false
   pub before : (j : ℕ) → i ≤ j → j < k → p j ≡ true
 
-found_from : (p : ℕ → Bool) (n i k : ℕ) → first_false p i n ≡ At k → First p i n k
+found_from : (p : ℕ → Bool) (n i k : ℕ) → first_false p i n ≡ Some k → First p i n k
 unfolding first_false
 found_from p zero i k e = never (cc)
 found_from p (suc n) i k e = split (p i) refl (λ t. found_from p n (i + 1) k t)
@@ -100,7 +99,7 @@ found_from p (suc n) i k e = split (p i) refl (λ t. found_from p n (i + 1) k t)
         at t f j h g true same = let e : i ≡ j = eqb-true i j same in rw (← e) t
         at t f j h g false apart = let d : i ≡ j → ⊥ = eqb-false i j apart in f.before j (omega arith) g
 
-    split : (b : Bool) → p i ≡ b → (first_false p (i + 1) n ≡ At k → First p (i + 1) n k) → First p i (suc n) k
+    split : (b : Bool) → p i ≡ b → (first_false p (i + 1) n ≡ Some k → First p (i + 1) n k) → First p i (suc n) k
     split true t rest = passed t (rest (sym (first_on p i n t) ∙ e))
     split false t rest = let at : i ≡ k = cc (first_here p i n t) in
         record {
@@ -110,5 +109,5 @@ found_from p (suc n) i k e = split (p i) refl (λ t. found_from p n (i + 1) k t)
           before = λ j h g. absurd (omega arith);
         }
 
-pub found : (p : ℕ → Bool) (n k : ℕ) → first_false p 0 n ≡ At k → First p 0 n k
+pub found : (p : ℕ → Bool) (n k : ℕ) → first_false p 0 n ≡ Some k → First p 0 n k
 found p n k e = found_from p n 0 k e

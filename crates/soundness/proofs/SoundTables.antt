@@ -5,6 +5,7 @@
 -- way round, where the root covers the table and all nodes are sound, no record is unsound (`sound_clean`); so too for
 -- a subtree by itself (`clear_sound`), and where its records have one context it does not matter where it is
 -- (`sound_anywhere`). Subtrees are nested: one that begins within another ends within it (`nested`). Assumes nothing.
+use Rattle.std.specs.Prelude.{None, Option, ℕ}
 use mathlib.Core.Path.{◌≡◌, refl, sym, ap, ◌∙◌}
 use mathlib.Core.Bool.{Bool, true, false, ◌&&◌}
 use mathlib.Core.List.{List}
@@ -19,8 +20,6 @@ use Rattle.fields.proofs.Basics.{and_both, and_left, and_right, both_ways, drop_
 use Rattle.fields.specs.Choice.{if'}
 use Rattle.forest.specs.Forest.{Node, size_of, span_of, node_of, kids_of, rest_of, Tree, node, Forest, none, ◌then◌}
 use Rattle.forest.specs.Forest.{forest, count}
-use Rattle.forest.specs.declared.Found.{Found}
-use Rattle.forest.specs.declared.Found.TheVariants.{Nothing}
 use Rattle.forest.proofs.Stretch.{node_take, size_take, length_kids, length_rest, forest_none}
 use Rattle.forest.proofs.Stretch.{forest_tree, forest_induction, count_forest, record_or_none}
 use Rattle.forest.proofs.Named.{same_bytes_equal}
@@ -275,7 +274,7 @@ module _ (x : ℕ → Context) (t : List ℕ) (clean : (j : ℕ) → j < length 
       (λ far. omega (arith, rest j far (omega arith))))
 
 -- LAWS: a table with no unsound record
-module _ (t names : List ℕ) (e : first_unsound t names ≡ Nothing) where
+module _ (t names : List ℕ) (e : first_unsound t names ≡ None) where
   -- each of its records is sound
   pub record_clean : (i : ℕ) → i < length t / 24 → record_sound t names i ≡ true
   unfolding first_unsound
@@ -425,7 +424,7 @@ record_in t names root j e = rw (root, e) (go (eqb j 0))
 
 -- THEOREM: a table that its root covers, and whose nodes are all sound, has no unsound record
 pub sound_clean : (t names : List ℕ) → root_sound t ≡ true → Sound (context_of t names) 0 t
-    → first_unsound t names ≡ Nothing
+    → first_unsound t names ≡ None
 unfolding first_unsound
 sound_clean t names root s =
     let n : ℕ = length t / 24 in
@@ -443,13 +442,13 @@ module _ (x : ℕ → Context) (bs : List ℕ) (one : span_of bs ≡ length bs)
   abbrev n : ℕ
   n = length bs / 24
 
-  abbrev found : Found
+  abbrev found : Option ℕ
   found = first_false (sound_in x bs) 0 n
 
   all_bytes_lem : stretch bs 0 n ≡ bs
   all_bytes_lem = take_all (24 * n) bs (omega arith)
 
-  nothing_sound : found ≡ Nothing → all_sound x (forest 0 bs) ≡ true
+  nothing_sound : found ≡ None → all_sound x (forest 0 bs) ≡ true
   unfolding sound_in sound_at
   nothing_sound clean =
       record_or_none bs (all_none x 0 bs) λ big.
@@ -463,7 +462,7 @@ module _ (x : ℕ → Context) (bs : List ℕ) (one : span_of bs ≡ length bs)
       } in
       rw all_bytes_lem at (all_in_lem x bs each n 0 n (omega arith) whole)
 
-  sound_nothing : all_sound x (forest 0 bs) ≡ true → found ≡ Nothing
+  sound_nothing : all_sound x (forest 0 bs) ≡ true → found ≡ None
   unfolding sound_in
   sound_nothing sound =
       let part : SoundPart x bs 0 n = record { room = omega arith; nodes = rw all_bytes_lem sound } in

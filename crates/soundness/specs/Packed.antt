@@ -1,11 +1,10 @@
 -- How the packed rows of code are read. It is proved that they agree with Kinds, so nobody has to check the digits.
 -- These are definitions.
-use Rattle.std.specs.Prelude.{Bool, true, false, ◌&&◌, ◌||◌, List, [], ◌∷◌, ◌≡◌, ℕ, ◌+◌, ◌-◌, ◌*◌, ◌/◌, ◌%◌, ◌<◌, ◌≤◌, min, length, get_or, take, eqb, ltb, leb}
+use Rattle.std.specs.Prelude.{Bool, true, false, ◌&&◌, ◌||◌, List, [], ◌∷◌, ◌≡◌, ℕ, ◌+◌, ◌-◌, ◌*◌, ◌/◌, ◌%◌, ◌<◌, ◌≤◌, min, length, get_or, take, eqb, ltb, leb, Option}
 use Rattle.fields.specs.Choice.{if'}
 use Rattle.soundness.specs.Kinds.{statement, expression, parameter, one, two, three, Times, any_number, even_number}
 use Rattle.soundness.specs.Kinds.{at_most, Children, children, exactly, any_then, kind_of, class_of}
 use Rattle.forest.specs.Forest.{record_bytes, size_of, node_of, span_of}
-use Rattle.forest.specs.declared.Found.{Found}
 use Rattle.soundness.specs.Files.{last_file, root_statements}
 use Rattle.soundness.specs.Sound.{permitted, fixed, between, root_sound, first_unsound, unsound_in}
 
@@ -152,7 +151,7 @@ pub record Turned (bs : List ℕ) (i end file later own least most : ℕ) : Type
 
 -- what a search for the first unsound record returns, of a top-level statement (`alone`) and of a table whose root is
 -- sound (`table`); `first` ends the loop's first statement, and no statement ends before `whole`
-pub record Searched (t : List ℕ) (names first whole : ℕ) (r : Found) : Type 0 where
+pub record Searched (t : List ℕ) (names first whole : ℕ) (r : Option ℕ) : Type 0 where
   pub alone : first ≡ 0 → whole ≡ length t / record_bytes → r ≡ unsound_in names t
   pub table : first ≡ root_end t → whole ≡ 0 → root_sound t ≡ true → (ns : List ℕ) → names ≡ length ns
       → r ≡ first_unsound t ns

@@ -1,10 +1,8 @@
 -- When a record is sound, and the first that is not (docs/FORMAT.md, "A sound table"). These are definitions.
-use Rattle.std.specs.Prelude.{Bool, true, false, ◌&&◌, List, [], ◌∷◌, ◌++◌, ℕ, zero, suc, ◌+◌, ◌-◌, ◌*◌, ◌/◌, ◌%◌, length, drop, replicate, leb, eqb}
+use Rattle.std.specs.Prelude.{Bool, true, false, ◌&&◌, List, [], ◌∷◌, ◌++◌, ℕ, zero, suc, ◌+◌, ◌-◌, ◌*◌, ◌/◌, ◌%◌, length, drop, replicate, leb, eqb, None, Option, Some}
 use Rattle.fields.specs.Choice.{if'}
 use Rattle.forest.specs.Forest.{record_bytes, Node, node_of, kids_of, node, Forest, none, ◌then◌, forest, count}
 use Rattle.forest.specs.Names.{same}
-use Rattle.forest.specs.declared.Found.{Found}
-use Rattle.forest.specs.declared.Found.TheVariants.{At, Nothing}
 use Rattle.soundness.specs.KindNumbers.{kind_named}
 use Rattle.soundness.specs.Files.{Range, range, file_numbers, file_sound, files_of}
 use Rattle.soundness.specs.Kinds.{statement, Times, any_number, even_number, at_most, Children, kind_of, class_of}
@@ -105,12 +103,12 @@ record_sound t names i =
     if' (eqb i 0) (λ _. root_sound t) (λ _. true) && sound_at (context_of t names i) i (drop (record_bytes * i) t)
 
 -- the first of n numbers from i on at which a test fails
-unfoldable pub first_false : (ℕ → Bool) → ℕ → ℕ → Found
-first_false p i zero = Nothing
-first_false p i (suc n) = if' (p i) (λ _. first_false p (i + 1) n) (λ _. At i)
+unfoldable pub first_false : (ℕ → Bool) → ℕ → ℕ → Option ℕ
+first_false p i zero = None
+first_false p i (suc n) = if' (p i) (λ _. first_false p (i + 1) n) (λ _. Some i)
 
 -- the first unsound record in index order
-unfoldable pub first_unsound : List ℕ → List ℕ → Found
+unfoldable pub first_unsound : List ℕ → List ℕ → Option ℕ
 first_unsound t names = first_false (record_sound t names) 0 (length t / record_bytes)
 
 -- the context of record i of a top-level statement: the first record has the number of a source file, and the others
@@ -124,10 +122,10 @@ unfoldable pub sound_in : (ℕ → Context) → List ℕ → ℕ → Bool
 sound_in x bs i = sound_at (x i) i (drop (record_bytes * i) bs)
 
 -- the first unsound record of a top-level statement in a table that has `names` name bytes
-unfoldable pub unsound_in : ℕ → List ℕ → Found
+unfoldable pub unsound_in : ℕ → List ℕ → Option ℕ
 unsound_in names bs = first_false (sound_in (context_in names bs) bs) 0 (length bs / record_bytes)
 
 -- whether a search found nothing
-abbrev pub clear : Found → Bool
-clear (At i) = false
-clear Nothing = true
+abbrev pub clear : Option ℕ → Bool
+clear (Some i) = false
+clear None = true

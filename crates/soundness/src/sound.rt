@@ -8,7 +8,7 @@ ghost use Rattle.soundness.specs.Packed.{backs_in, children_of, rule_of, number_
 ghost use Rattle.soundness.specs.Packed.{root_end, Turned, Searched, Ranges, child_in};
 
 use crate::{classes, kinds, rows};
-use forest::{Found, RECORD};
+use forest::{Nodes, RECORD};
 
 // The largest number of a source file.
 const LAST_FILE: u16 = 999;
@@ -75,14 +75,7 @@ fn whole(size: u16, len: usize) -> bool
 fn children(t: &[u8]) -> usize
     ensures { result ≡ length (classes (forest 0 t.now)) }
 {
-    let mut left = t;
-    let mut n = 0;
-    while RECORD <= left.len() {
-        let e = forest::span(left);
-        left = &left[e..];
-        n += 1;
-    }
-    n
+    Nodes { at: 0, left: t }.count()
 }
 
 // The index of the first of the `backs` last children. If the rule has none, a number past all children, so that the
@@ -149,6 +142,7 @@ fn child(t: &[u8], want: u8) -> usize
 }
 
 // Whether the nodes of a stretch fill it and are the children that a rule permits. The last children begin at child m.
+// No `for` over Nodes here and in row_sound: `child` tests the size by which the walk goes on; Nodes reads it again.
 fn children_sound(t: &[u8], rule: u64, m: usize) -> bool
     requires { LastFrom (length (classes (forest 0 t.now))) (backs_in rule) m }
     ensures { result ≡ kids_sound (children_of rule) (forest 0 t.now) }
@@ -306,7 +300,7 @@ fn later(a: usize, b: usize) -> usize
 // statement where `first` is 0 and `whole` its number of records, since that statement does not end before. The loop
 // keeps where the top-level statement ends that it is in, and the number of that one. It is one loop for both, so that
 // `record_sound` is called in one place: compiled code then has no call for each record.
-fn first_from(t: &[u8], names: usize, first: usize, whole: usize) -> Found
+fn first_from(t: &[u8], names: usize, first: usize, whole: usize) -> Option<usize>
     ensures { Searched t.now names first whole result }
 {
     let n = t.len() / RECORD;
@@ -319,28 +313,28 @@ fn first_from(t: &[u8], names: usize, first: usize, whole: usize) -> Found
         end = later(within.end, whole);
         file = within.file;
         if !record_sound(&t[a..], names, within.least, within.most) {
-            return Found::At(i);
+            return Some(i);
         }
         i += 1;
     }
-    Found::Nothing
+    None
 }
 
 // The first unsound record in index order.
-pub(crate) fn first_unsound(table: &[u8], names: &[u8]) -> Found
+pub(crate) fn first_unsound(table: &[u8], names: &[u8]) -> Option<usize>
     ensures { result ≡ first_unsound table.now names.now }
 {
     if table.len() / RECORD == 0 {
-        return Found::Nothing;
+        return None;
     }
     if !root_sound(table) {
-        return Found::At(0);
+        return Some(0);
     }
     first_from(table, names.len(), root_end(table), 0)
 }
 
 // The first unsound record of a top-level statement, in a table that has `names` name bytes.
-pub(crate) fn first_unsound_in(statement: &[u8], names: usize) -> Found
+pub(crate) fn first_unsound_in(statement: &[u8], names: usize) -> Option<usize>
     ensures { result ≡ unsound_in names statement.now }
 {
     first_from(statement, names, 0, statement.len() / RECORD)

@@ -2,6 +2,7 @@
 -- (`ending_put`), and the counters are those of the report (`report_put`). A step that accepts writes one word, the
 -- number of bytes taken. It fits, because a file takes at most 59,904 bytes (`step_fits`, from the limits of the
 -- counts). Assumes nothing.
+use Rattle.std.specs.Prelude.{Ok, Result, ℕ}
 use mathlib.Core.Path.{◌≡◌, refl, sym, ap, ◌∙◌}
 use mathlib.Core.Bool.{Bool, true, false}
 use mathlib.Core.List.{List, []}
@@ -19,8 +20,6 @@ use Rattle.tablefile.specs.Reading.{header_at, content_at, front_check, sound_ch
 use Rattle.tablefile.proofs.Fronts.{first_is, taken_is, Fronted, fronted_then}
 use Rattle.figures.specs.declared.Ending.{Ending}
 use Rattle.figures.specs.declared.Ending.TheVariants.{Refused as RefusedAt}
-use Rattle.figures.specs.declared.Stepped.{Stepped}
-use Rattle.figures.specs.declared.Stepped.TheVariants.{Taken}
 use Rattle.figures.specs.declared.Reported.{Reported}
 use Rattle.table.specs.Numbers.{too_many_files}
 use Rattle.figures.specs.Reporting.{most_files, window_check, step_check, told, step_of}
@@ -55,11 +54,11 @@ front_most w f =
     omega (arith, taken_is w, first_is w, names, nodes)
 
 -- LAW: the bytes that a step takes fit a word
-pub step_fits : (w figures : List ℕ) {a : Stepped} {n : ℕ} → a ≡ step_of w figures → a ≡ Taken n → n < 2 ^ 32
+pub step_fits : (w figures : List ℕ) {a : Result ℕ ℕ} {n : ℕ} → a ≡ step_of w figures → a ≡ Ok n → n < 2 ^ 32
 unfolding step_of step_check window_check
 step_fits w figures {n = n} a-is e = start (eqb (length w) 0) (sym a-is ∙ e)
   where
-    go : (a : Answer) → step_check w figures ≡ a → told a (header_at w).taken ≡ Taken n → n < 2 ^ 32
+    go : (a : Answer) → step_check w figures ≡ a → told a (header_at w).taken ≡ Ok n → n < 2 ^ 32
     go (accepted vs) c f =
         let is : (header_at w).taken ≡ n = cc in
         let rest = passed_both (demand (ltb (get_or figures 0 0) most_files) too_many_files) (λ _. window_check w) c in
@@ -67,7 +66,7 @@ step_fits w figures {n = n} a-is e = start (eqb (length w) 0) (sym a-is ∙ e)
         omega (arith, is, front_most w (fronted_then w (λ _. accepted []) (rw front.1 refl)).0)
     go (refused k vs) c f = never (cc)
 
-    start : (t : Bool) → if' t (λ _. Taken 0) (λ _. told (step_check w figures) (header_at w).taken) ≡ Taken n
+    start : (t : Bool) → if' t (λ _. Ok 0) (λ _. told (step_check w figures) (header_at w).taken) ≡ Ok n
         → n < 2 ^ 32
     start true f = let z : 0 ≡ n = cc in omega (arith, z)
     start false f = go (step_check w figures) refl f

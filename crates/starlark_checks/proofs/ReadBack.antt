@@ -2,6 +2,7 @@
 -- writes the content that the reader holds into its buffers. What `starlark_write` wrote, `starlark_read` gives back
 -- as the same table, names, dialect and edition; the word for the edition is the one that was given to the writer.
 -- Each follows from writer's and tablefile's theorems, by unfolding the words. Assumes nothing.
+use Rattle.std.specs.Prelude.{None, Ok, Option, Some, ℕ}
 use mathlib.Core.Path.{◌≡◌, refl, sym, ap, ◌∙◌}
 use mathlib.Core.Bool.{Bool, true, false}
 use mathlib.Core.List.{List, [], ◌∷◌, ◌++◌}
@@ -13,21 +14,17 @@ use borrow.Author.Tests.{eqb-true}
 use Rattle.fields.specs.Choice.{if'}
 use Rattle.fields.specs.Field.{field}
 use Rattle.fields.proofs.Spelling.{Bytes}
-use Rattle.dialect.specs.declared.Stated.{Stated}
-use Rattle.dialect.specs.declared.Stated.TheVariants.{Number, Nothing}
 use Rattle.table.specs.Answer.{accepted}
 use Rattle.tablefile.specs.File.{Content}
 use Rattle.tablefile.specs.Reading.{header_at, content_at, number_held, read_check}
 use Rattle.tablefile.specs.Loading.{verdict, held}
 use Rattle.tablefile.specs.Lending.{into_check, handed}
 use Rattle.tablefile.specs.declared.Loaded.{Loaded}
-use Rattle.tablefile.specs.declared.Verdict.TheVariants.{Accepted}
 use Rattle.tablefile.proofs.Fronts.{table_length_lem, names_length, dialect_length}
 use Rattle.tablefile.proofs.Accepted.{read_fronted}
 use Rattle.tablefile.proofs.Lends.{into_passed}
 use Rattle.tablefile.proofs.Theorems.{Read, holds}
 use Rattle.writer.specs.Writing.{holding, write_of, file_after}
-use Rattle.writer.specs.declared.Written.TheVariants.{Accepted as Wrote}
 use Rattle.writer.proofs.RoundTrips.{back_content, back_read}
 use Rattle.starlark_checks.specs.Words.{no_place, stated_of, stated_word, held_values, read_of}
 
@@ -67,7 +64,7 @@ module _ (file t ns : List ℕ) (c : Content) (passed : read_check file ≡ acce
 
 -- THEOREM: if the reader accepts a file, and table and names fit the buffers, `starlark_read` writes the content of the
 -- file; the rest of the buffers stays
-module _ (file : List ℕ) (l : Loaded) (read : Read file l) (good : l.verdict ≡ Accepted) (t ns : List ℕ)
+module _ (file : List ℕ) (l : Loaded) (read : Read file l) (good : l.verdict ≡ Ok tt) (t ns : List ℕ)
     (t-fits : length (held l).table ≤ length t) (ns-fit : length (held l).names ≤ length ns) where
   reader : read_check file ≡ accepted []
   reader = sym read.0 ∙ ap verdict good
@@ -85,7 +82,7 @@ module _ (file : List ℕ) (l : Loaded) (read : Read file l) (good : l.verdict �
   read_names = its_names file t ns (held l) reader same t-fits ns-fit
 
 -- THEOREM: what is written is read back
-module _ (t names ds : List ℕ) (e : Stated) (buffer : List ℕ) {n : ℕ}
+module _ (t names ds : List ℕ) (e : Option ℕ) (buffer : List ℕ) {n : ℕ}
     (wrote : write_of (holding t names ds e) (length buffer) ≡ accepted (n ∷ []))
     (table_bytes : Bytes t) (names_bytes : Bytes names) (dialect_bytes : Bytes ds) (room-t room-n : List ℕ)
     (t-fits : length t ≤ length room-t) (names_fit : length names ≤ length room-n) where
@@ -94,12 +91,12 @@ module _ (t names ds : List ℕ) (e : Stated) (buffer : List ℕ) {n : ℕ}
 
   accepts : read_check file ≡ accepted []
   accepts =
-      back_read (holding t names ds e) buffer (Wrote n) (file_after (holding t names ds e) buffer) (sym wrote, refl)
+      back_read (holding t names ds e) buffer (Ok n) (file_after (holding t names ds e) buffer) (sym wrote, refl)
       refl table_bytes names_bytes dialect_bytes
 
   content : content_at file ≡ holding t names ds e
   content =
-      back_content (holding t names ds e) buffer (Wrote n) (file_after (holding t names ds e) buffer) (sym wrote, refl)
+      back_content (holding t names ds e) buffer (Ok n) (file_after (holding t names ds e) buffer) (sym wrote, refl)
       refl table_bytes names_bytes dialect_bytes
 
   -- the counts, the dialect and the edition
@@ -120,6 +117,6 @@ module _ (t names ds : List ℕ) (e : Stated) (buffer : List ℕ) {n : ℕ}
 pub stated_back : (n : ℕ) → stated_word (stated_of n) ≡ n
 stated_back n = go (eqb n no_place) refl
   where
-    go : (b : Bool) → eqb n no_place ≡ b → stated_word (if' b (λ _. Nothing) (λ _. Number n)) ≡ n
+    go : (b : Bool) → eqb n no_place ≡ b → stated_word (if' b (λ _. None) (λ _. Some n)) ≡ n
     go true e = sym (eqb-true n no_place e)
     go false e = refl

@@ -4,19 +4,17 @@
 -- refusal has the same words in every job. `front_laid` to `call_laid` say that words stored one by one are the list
 -- of the definition; `held_fit` and `params_fit` that the values fit 32 bits. Cite `told`, `told_with` and
 -- `read_told`. No induction but over a list of values. Assumes nothing.
+use Rattle.std.specs.Prelude.{None, Ok, Option, Result, Some, ℕ}
 use mathlib.Core.Path.{◌≡◌, refl, sym, ap, ◌∙◌}
 use mathlib.Core.List.{List, [], ◌∷◌, ◌++◌}
 use Prim.Native.Nat.{ℕ, ◌/◌, ◌^◌, ◌<◌, ◌≤◌}
 use native.Mathlib.Omega.{arith}
 use lib.ListN.{set}
 use Rattle.fields.specs.Field.{field}
-use Rattle.dialect.specs.declared.Stated.{Stated}
 use Rattle.table.specs.Answer.{Answer, accepted, and_then, refusal}
 use Rattle.table.specs.declared.Refusal.{Refusal}
 use Rattle.table.specs.declared.Refusal.TheVariants.{Spanned}
 use Rattle.table.specs.declared.Span.{Span}
-use Rattle.table.specs.declared.Place.{Place}
-use Rattle.table.specs.declared.Place.TheVariants.{At, Nothing}
 use Rattle.parameters.specs.declared.Range.{Range}
 use Rattle.parameters.specs.Params.{params_of, AllBelow}
 use Rattle.parameters.proofs.Accepted.{accepted_small}
@@ -26,8 +24,6 @@ use Rattle.tablefile.specs.Reading.{header_at, content_at, number_held}
 use Rattle.tablefile.specs.Loading.{verdict}
 use Rattle.tablefile.specs.Lending.{into_check}
 use Rattle.tablefile.specs.declared.Heading.{Heading}
-use Rattle.tablefile.specs.declared.Verdict.{Verdict}
-use Rattle.tablefile.specs.declared.Verdict.TheVariants.{Accepted}
 use Rattle.tablefile.proofs.Fronts.{dialect_few}
 use Rattle.tablefile.proofs.Lends.{into_fronted}
 use Rattle.starlark_checks.specs.Words.{number, words, place_in, call_words, rescue_words, laid, Fit}
@@ -64,15 +60,16 @@ pub pass_refused : (r : Refusal) {n : ℕ} (xs : List ℕ) {ys : List ℕ} → P
 pass_refused r xs p = p
 
 -- reading a file: v is the answer of `tablefile::read_into`
-module _ (file : List ℕ) (a b : ℕ) (v : Verdict) {B : Type 0} (p : (verdict v ≡ into_check file a b) × B) where
+module _ (file : List ℕ) (a b : ℕ) (v : Result (Unit {0}) Refusal) {B : Type 0}
+    (p : (verdict v ≡ into_check file a b) × B) where
   -- LAW: the counts of an accepted file fit words
-  pub held_fit : v ≡ Accepted → Fit ((header_at file).nodes ∷ (header_at file).names ∷ [])
+  pub held_fit : v ≡ Ok tt → Fit ((header_at file).nodes ∷ (header_at file).names ∷ [])
   held_fit e =
       let f = into_fronted file a b (sym p.0 ∙ ap verdict e) in
       (omega (arith, f.counts), (omega (arith, f.counts), tt))
 
   -- LAW: what is written for an arm is written for the answer
-  pub read_told : (w : Verdict) (n : ℕ) (xs ys : List ℕ) → v ≡ w
+  pub read_told : (w : Result (Unit {0}) Refusal) (n : ℕ) (xs ys : List ℕ) → v ≡ w
       → Put words (and_then (verdict w) (λ _. accepted (held_values file))) n xs ys
       → (n ≡ number (read_of file a b)) × ((ys ≡ laid (words (read_of file a b)) 0 xs) × B)
   unfolding read_of
@@ -101,18 +98,18 @@ pub front_laid : (file : List ℕ) {h : Heading} (xs : List ℕ) {d : List ℕ} 
 front_laid file xs h-is d-is x-is y-is z-is = rw (x-is, y-is, z-is, d-is, h-is) refl
 
 -- LAW: two words of an edition, written from place 6 on
-pub edition_laid : (e : Stated) (xs : List ℕ) {w n : ℕ} → w ≡ stated_word e → n ≡ number_held e
+pub edition_laid : (e : Option ℕ) (xs : List ℕ) {w n : ℕ} → w ≡ stated_word e → n ≡ number_held e
     → set (set xs 6 w) 7 n ≡ laid (edition_values e) 6 xs
 edition_laid e xs w-is n_is = rw (w-is, n_is) refl
 
 -- LAW: two more words after these
-pub held_laid : (file : List ℕ) (xs : List ℕ) {ys zs : List ℕ} {e : Stated} → ys ≡ laid (front_values file) 0 xs
+pub held_laid : (file : List ℕ) (xs : List ℕ) {ys zs : List ℕ} {e : Option ℕ} → ys ≡ laid (front_values file) 0 xs
     → e ≡ (content_at file).edition → zs ≡ laid (edition_values e) 6 ys
     → (0 ≡ number (accepted (held_values file))) × (zs ≡ laid (words (accepted (held_values file))) 0 xs)
 held_laid file xs ys-is e-is zs-is = (refl, zs-is ∙ rw (e-is, ys-is) refl)
 
 -- LAW: a refusal with a span has five words
-module _ (r : Refusal) {n k : ℕ} {s : Span} {p : Place} (h : r ≡ Spanned n k s p) where
+module _ (r : Refusal) {n k : ℕ} {s : Span} {p : Option ℕ} (h : r ≡ Spanned n k s p) where
   pub spanned_number : n ≡ number (refusal r)
   spanned_number = rw h refl
 
@@ -120,11 +117,11 @@ module _ (r : Refusal) {n k : ℕ} {s : Span} {p : Place} (h : r ≡ Spanned n k
       → set (set (set (set (set xs 0 k) 1 s.begin) 2 s.end) 3 w) 4 s.file ≡ laid (words (refusal r)) 0 xs
   spanned_laid xs w-is = rw (h, w-is) (go p)
     where
-      go : (p : Place)
+      go : (p : Option ℕ)
           → set (set (set (set (set xs 0 k) 1 s.begin) 2 s.end) 3 (place_in (place_values p))) 4 s.file
           ≡ laid (words (refusal (Spanned n k s p))) 0 xs
-      go (At i) = refl
-      go Nothing = refl
+      go (Some i) = refl
+      go None = refl
 
 -- LAW: a range whose ends fit words
 pub range_fit : (r s : Range) → r ≡ s → s.from ≤ 4294967295 → s.upto ≤ 4294967295 → Fit (r.from ∷ r.upto ∷ [])
@@ -147,12 +144,12 @@ call_words_lem : (a : CallArgs) → call_words (accepted (call_values a)) ≡ a.
     ∷ place_in (place_values a.star) ∷ place_in (place_values a.star_star) ∷ []
 call_words_lem a = go a.star a.star_star
   where
-    go : (p q : Place) → call_words (accepted (a.num_pos ∷ a.num_named ∷ place_values p ++ place_values q))
+    go : (p q : Option ℕ) → call_words (accepted (a.num_pos ∷ a.num_named ∷ place_values p ++ place_values q))
         ≡ a.num_pos ∷ a.num_named ∷ place_in (place_values p) ∷ place_in (place_values q) ∷ []
-    go (At i) (At j) = refl
-    go (At i) Nothing = refl
-    go Nothing (At j) = refl
-    go Nothing Nothing = refl
+    go (Some i) (Some j) = refl
+    go (Some i) None = refl
+    go None (Some j) = refl
+    go None None = refl
 
 -- LAW: four words, written one after the other
 pub call_laid : (a : CallArgs) (s k : ℕ) (xs : List ℕ) → s ≡ place_in (place_values a.star)

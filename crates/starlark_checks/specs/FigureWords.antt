@@ -1,10 +1,8 @@
 -- The figures as a C caller gets them: the end of a report, and the answer of a step. These are definitions.
-use Rattle.std.specs.Prelude.{List, [], ◌∷◌, ℕ}
+use Rattle.std.specs.Prelude.{List, [], ◌∷◌, ℕ, Err, Ok, Result}
 use Rattle.table.specs.Answer.{Answer, accepted, refused}
 use Rattle.figures.specs.declared.Ending.{Ending}
 use Rattle.figures.specs.declared.Ending.TheVariants.{Whole, Refused as RefusedAt}
-use Rattle.figures.specs.declared.Stepped.{Stepped}
-use Rattle.figures.specs.declared.Stepped.TheVariants.{Taken, Refused}
 use Rattle.starlark_checks.specs.FormatWords.{two_words}
 
 -- the number that is returned for a report: 0 if it is whole, else that of the refused file
@@ -18,6 +16,6 @@ ending_words Whole = []
 ending_words (RefusedAt n at) = two_words at
 
 -- a step's answer: the bytes that the file takes, or its number alone
-abbrev pub step_answer : Stepped → Answer
-step_answer (Taken n) = accepted (n ∷ [])
-step_answer (Refused n) = refused n []
+abbrev pub step_answer : Result ℕ ℕ → Answer
+step_answer (Ok n) = accepted (n ∷ [])
+step_answer (Err n) = refused n []

@@ -1,10 +1,8 @@
 -- The answers as a C caller gets them: the number that is returned, and the twelve words at exit, from a job's answer.
 -- These are definitions.
-use Rattle.std.specs.Prelude.{List, [], ◌∷◌, ◌++◌, ℕ, ◌+◌, ◌/◌, ◌%◌, ◌<◌, ◌≤◌, ◌^◌, eqb, set, get_or, take, drop}
+use Rattle.std.specs.Prelude.{List, [], ◌∷◌, ◌++◌, ℕ, ◌+◌, ◌/◌, ◌%◌, ◌<◌, ◌≤◌, ◌^◌, eqb, set, get_or, take, drop, None, Option, Some}
 use Rattle.fields.specs.Choice.{if'}
 use Rattle.fields.specs.Field.{field}
-use Rattle.dialect.specs.declared.Stated.{Stated}
-use Rattle.dialect.specs.declared.Stated.TheVariants.{Number, Nothing}
 use Rattle.table.specs.Answer.{Answer, accepted, refused, and_then}
 use Rattle.tablefile.specs.Reading.{header_at, content_at, number_held}
 use Rattle.tablefile.specs.Lending.{into_check}
@@ -51,13 +49,13 @@ rescue_words (accepted vs) = take 4 vs ++ (get_or vs 4 0 % 4294967296) ∷ (get_
 rescue_words (refused n vs) = carried_words vs
 
 -- the edition that the word of a caller states: the word for no place means nothing
-abbrev pub stated_of : ℕ → Stated
-stated_of n = if' (eqb n no_place) (λ _. Nothing) (λ _. Number n)
+abbrev pub stated_of : ℕ → Option ℕ
+stated_of n = if' (eqb n no_place) (λ _. None) (λ _. Some n)
 
 -- the word of an edition that a file states
-abbrev pub stated_word : Stated → ℕ
-stated_word (Number n) = n
-stated_word Nothing = no_place
+abbrev pub stated_word : Option ℕ → ℕ
+stated_word (Some n) = n
+stated_word None = no_place
 
 -- the values of a file before its edition: the numbers of nodes and name bytes, 1 if it has a dialect, and the
 -- dialect's nine bytes, four a word, the low one first; zeros if there is none
@@ -68,7 +66,7 @@ front_values file =
     h.nodes ∷ h.names ∷ (h.dialect / 9) ∷ field 4 d 0 ∷ field 4 d 4 ∷ field 4 d 8 ∷ []
 
 -- the values of its edition: the stated one, and the one that holds
-abbrev pub edition_values : Stated → List ℕ
+abbrev pub edition_values : Option ℕ → List ℕ
 edition_values edition = stated_word edition ∷ number_held edition ∷ []
 
 -- the values of a file that is read

@@ -34,21 +34,12 @@ ghost use Rattle.fstring.specs.Writing.{write_of as text_of, text_after, notice}
 ghost use Rattle.fstring.specs.Reading.{read_of as parts_read, words_after as parts_after, texts_after};
 ghost use Rattle.starlark_checks.specs.FormatWords.{two_words, text_words, part_words};
 
-use arguments::{CallArgs, Called};
-use bind::Bound;
+use arguments::CallArgs;
 use books::{Changed, Looked};
-use dialect::Stated;
-use figures::{Ending, Stepped};
-use filepass::Passed;
-use namesakes::Named;
-use parameters::{Counted, Range, Unpacked};
-use rescue::{Kept, Rescued};
-use table::{Checked, Place, Refusal, numbers};
-use tablefile::Verdict;
-use targets::Targeted;
-use types::Shaped;
-use validate::Listed;
-use writer::Written;
+use figures::Ending;
+use parameters::{Counted, Range};
+use rescue::Kept;
+use table::{Refusal, numbers};
 
 // The version of the library.
 const MAJOR: u32 = 0;
@@ -131,13 +122,10 @@ fn put_ranges(c: Counted, out: &mut [u32; 12]) -> u32
 }
 
 // A place among the arguments, in one word.
-fn place_word(p: Place) -> u32
+fn place_word(p: Option<u32>) -> u32
     ensures { result ≡ place_in (place_values p) }
 {
-    match p {
-        Place::At(i) => i,
-        Place::Nothing => 0xFFFF_FFFF,
-    }
+    p.unwrap_or(0xFFFF_FFFF)
 }
 
 // Writes the numbers of positional and of named arguments, and the places of star and `**`.
@@ -167,27 +155,24 @@ fn put_kept(k: Kept, out: &mut [u32; 12])
 }
 
 // The edition that a caller states: the word for none means nothing.
-fn stated_of(edition: u32) -> Stated
+fn stated_of(edition: u32) -> Option<u32>
     ensures { result ≡ stated_of edition }
 {
     if edition == 0xFFFF_FFFF {
-        return Stated::Nothing;
+        return None;
     }
-    Stated::Number(edition)
+    Some(edition)
 }
 
 // A stated edition in one word.
-fn stated_word(edition: Stated) -> u32
+fn stated_word(edition: Option<u32>) -> u32
     ensures { result ≡ stated_word edition }
 {
-    match edition {
-        Stated::Number(n) => n,
-        Stated::Nothing => 0xFFFF_FFFF,
-    }
+    edition.unwrap_or(0xFFFF_FFFF)
 }
 
 // Writes the edition that a file states, or the word for none, and the edition that holds.
-fn put_edition(edition: Stated, out: &mut [u32; 12])
+fn put_edition(edition: Option<u32>, out: &mut [u32; 12])
     ensures { out.new ≡ laid (edition_values edition) 6 out.old }
 {
     out[6] = stated_word(edition);
@@ -237,8 +222,8 @@ pub fn starlark_table(table: &[u8], names: &[u8], out: &mut [u32; 12]) -> u32
 {
     let answer = table::check(table, names);
     match answer {
-        Checked::Sound => 0,
-        Checked::Refused(r) => put_refused(r, out),
+        Ok(()) => 0,
+        Err(r) => put_refused(r, out),
     }
 }
 
@@ -260,8 +245,8 @@ pub fn starlark_params(
 {
     let answer = parameters::params(table, names, node, modes);
     match answer {
-        Unpacked::Accepted(c) => put_ranges(c, out),
-        Unpacked::Refused(r) => put_refused(r, out),
+        Ok(c) => put_ranges(c, out),
+        Err(r) => put_refused(r, out),
     }
 }
 
@@ -274,8 +259,8 @@ pub fn starlark_call(table: &[u8], names: &[u8], node: usize, out: &mut [u32; 12
 {
     let answer = arguments::call(table, names, node);
     match answer {
-        Called::Accepted(a) => put_call(a, out),
-        Called::Refused(r) => put_refused(r, out),
+        Ok(a) => put_call(a, out),
+        Err(r) => put_refused(r, out),
     }
 }
 
@@ -298,8 +283,8 @@ pub fn starlark_bind(
 {
     let answer = bind::bind(table, names, call, def, list);
     match answer {
-        Bound::Accepted { flat, many } => put_two(flat, many, out),
-        Bound::Refused(r) => put_refused(r, out),
+        Ok(b) => put_two(b.flat, b.many, out),
+        Err(r) => put_refused(r, out),
     }
 }
 
@@ -322,8 +307,8 @@ pub fn starlark_namesakes(
 {
     let answer = namesakes::namesakes(table, names, call, def, list);
     match answer {
-        Named::Found(n) => put_count(n, out),
-        Named::Refused(r) => put_refused(r, out),
+        Ok(n) => put_count(n, out),
+        Err(r) => put_refused(r, out),
     }
 }
 
@@ -335,8 +320,8 @@ pub fn starlark_target(table: &[u8], names: &[u8], node: usize, out: &mut [u32; 
 {
     let answer = targets::target(table, names, node);
     match answer {
-        Targeted::Leaves(n) => put_count(n, out),
-        Targeted::Refused(r) => put_refused(r, out),
+        Ok(n) => put_count(n, out),
+        Err(r) => put_refused(r, out),
     }
 }
 
@@ -348,8 +333,8 @@ pub fn starlark_assignment(table: &[u8], names: &[u8], node: usize, out: &mut [u
 {
     let answer = targets::assignment(table, names, node);
     match answer {
-        Targeted::Leaves(n) => put_count(n, out),
-        Targeted::Refused(r) => put_refused(r, out),
+        Ok(n) => put_count(n, out),
+        Err(r) => put_refused(r, out),
     }
 }
 
@@ -375,8 +360,8 @@ pub fn starlark_type(
 {
     let answer = shapes::type_shape(table, names, dialect, edition, node, shapes);
     match answer {
-        Shaped::Accepted => 0,
-        Shaped::Refused(r) => put_refused(r, out),
+        Ok(()) => 0,
+        Err(r) => put_refused(r, out),
     }
 }
 
@@ -397,8 +382,8 @@ pub fn starlark_module(
 {
     let answer = validate::module(table, names, dialect, errors);
     match answer {
-        Listed::Total(n) => put_count(n, out),
-        Listed::Refused(r) => put_refused(r, out),
+        Ok(n) => put_count(n, out),
+        Err(r) => put_refused(r, out),
     }
 }
 
@@ -421,8 +406,8 @@ pub fn starlark_audit(
 {
     let answer = audit::audit(table, names, dialect, edition, errors);
     match answer {
-        Listed::Total(n) => put_count(n, out),
-        Listed::Refused(r) => put_refused(r, out),
+        Ok(n) => put_count(n, out),
+        Err(r) => put_refused(r, out),
     }
 }
 
@@ -431,7 +416,7 @@ fn write_stated(
     table: &[u8],
     names: &[u8],
     dialect: &[u8],
-    edition: Stated,
+    edition: Option<u32>,
     file: &mut [u8],
     out: &mut [u32; 12],
 ) -> u32
@@ -447,8 +432,8 @@ fn write_stated(
 {
     let answer = writer::write(table, names, dialect, edition, file);
     match answer {
-        Written::Accepted(n) => put_count(n, out),
-        Written::Refused(r) => put_refused(r, out),
+        Ok(n) => put_count(n, out),
+        Err(r) => put_refused(r, out),
     }
 }
 
@@ -484,11 +469,11 @@ pub fn starlark_rescue(input: &[u8], file: &mut [u8], out: &mut [u32; 12]) -> u3
 {
     let answer = rescue::rescue(input, file);
     match answer {
-        Rescued::Accepted(k) => {
+        Ok(k) => {
             put_kept(k, out);
             0
         }
-        Rescued::Refused(r) => put_refused(r, out),
+        Err(r) => put_refused(r, out),
     }
 }
 
@@ -510,8 +495,8 @@ pub fn starlark_read(file: &[u8], table: &mut [u8], names: &mut [u8], out: &mut 
 {
     let answer = tablefile::read_into(file, table, names);
     match answer {
-        Verdict::Accepted => put_held(file, out),
-        Verdict::Refused(r) => put_refused(r, out),
+        Ok(()) => put_held(file, out),
+        Err(r) => put_refused(r, out),
     }
 }
 
@@ -523,8 +508,8 @@ pub fn starlark_check_file(file: &[u8], errors: &mut [u32], out: &mut [u32; 12])
 {
     let answer = filepass::check_file(file, errors);
     match answer {
-        Passed::Listed { nodes, total } => put_two(total, nodes, out),
-        Passed::Refused(r) => put_refused(r, out),
+        Ok(p) => put_two(p.total, p.nodes, out),
+        Err(r) => put_refused(r, out),
     }
 }
 
@@ -596,8 +581,8 @@ pub fn starlark_fstring_write(
 {
     let answer = fstring::write(parts, texts, dialect, text);
     match answer {
-        fstring::Written::Accepted { length, enabled } => put_text(length, enabled, out),
-        fstring::Written::Refused(r) => put_refused(r, out),
+        Ok(w) => put_text(w.length, w.enabled, out),
+        Err(r) => put_refused(r, out),
     }
 }
 
@@ -782,7 +767,7 @@ pub fn starlark_figures_step(window: &[u8], figures: &mut [u64; 32], out: &mut [
 {
     let answer = figures::step(window, figures);
     match answer {
-        Stepped::Taken(n) => put_taken(n, 0, out),
-        Stepped::Refused(number) => number,
+        Ok(n) => put_taken(n, 0, out),
+        Err(number) => number,
     }
 }

@@ -3,6 +3,7 @@
 -- Theorems of the crate `audited` about the answers of `audit::audit`, for the number of any edition, and of
 -- `validate::module`. The content of the records `Accepts` and `Fitting` is written field by field. Each statement is
 -- proved by citing the theorem. Assumes nothing.
+use Rattle.std.specs.Prelude.{Some}
 use mathlib.Core.Path.{◌≡◌}
 use mathlib.Core.Bool.{true}
 use mathlib.Core.List.{List, [], ◌∷◌}
@@ -10,7 +11,6 @@ use Prim.Native.Nat.{ℕ, ◌*◌, ◌/◌, ◌≤◌}
 use lib.ListN.{length, drop}
 use Rattle.fields.specs.Field.{field}
 use Rattle.dialect.specs.declared.Edition.{Edition}
-use Rattle.dialect.specs.declared.EditionRead.TheVariants.{Known}
 use Rattle.dialect.specs.Editions.{edition_of}
 use Rattle.forest.specs.Forest.{record_bytes, forest}
 use Rattle.forest.proofs.Stretch.{records}
@@ -22,7 +22,7 @@ use Rattle.parameters.specs.Params.{list_of, params_of}
 use Rattle.arguments.specs.Job.{call_of}
 use Rattle.targets.specs.Jobs.{target_of, assignment_of}
 use Rattle.types.specs.Jobs.{type_shape_of}
-use Rattle.errors.specs.declared.Err.{Err}
+use Rattle.errors.specs.declared.Finding.{Finding}
 use Rattle.validate.specs.Job.{errors_of, module_of}
 use Rattle.audit.specs.declared.Role.TheVariants.{AsTarget, AsType}
 use Rattle.audit.specs.declared.Roles.TheVariants.{Nowhere}
@@ -72,7 +72,7 @@ zero_passes t names bytes n e =
 -- In words: if the module job returns 0 errors and each node is accepted in this sense, the audit returns 0 errors, if
 -- its number is that of an edition.
 pub passes_zero : (t names bytes : List ℕ) (n : ℕ) {edition : Edition}
-    → edition_of n ≡ Known edition
+    → edition_of n ≡ Some edition
     → module_of t names bytes ≡ accepted (0 ∷ [])
     → All (λ p.
     (node_fits t (root_in p.tree).at Parameters ≡ true → (room : ℕ)
@@ -123,7 +123,7 @@ zero_checks_all t names bytes n e =
 -- In words: if the module job returns 0 errors, and each record, each target and each type is accepted in this sense,
 -- the audit returns 0 errors, if its number is that of an edition.
 pub checks_all_zero : (t names bytes : List ℕ) (n : ℕ) {edition : Edition}
-    → edition_of n ≡ Known edition
+    → edition_of n ≡ Some edition
     → module_of t names bytes ≡ accepted (0 ∷ [])
     → Each (λ r.
     (node_fits t r.at Parameters ≡ true → (room : ℕ)
@@ -143,13 +143,13 @@ checks_all_zero t names bytes n known e nodes = theorem_checked.checks_all_zero 
 -- W-208: "Errors become four words: number, file, begin, end": the module pass's list
 -- In words: every error of the list with a number from 10 on has the source file number of the record that it names.
 pub module_file : (t names bytes : List ℕ)
-    → Each (λ (e : Err). slash_first ≤ e.number → e.span.file ≡ field 2 (drop (24 * e.node) t) 18)
+    → Each (λ (e : Finding). slash_first ≤ e.number → e.span.file ≡ field 2 (drop (24 * e.node) t) 18)
     (errors_of t names bytes)
 module_file = theorem_files.module_filed
 
 -- W-208: "all answers with a span carry the file number": the audit's list
 -- In words: the same for the audit's list.
 pub audit_file : (t names bytes : List ℕ) (n : ℕ)
-    → Each (λ (e : Err). slash_first ≤ e.number → e.span.file ≡ field 2 (drop (24 * e.node) t) 18)
+    → Each (λ (e : Finding). slash_first ≤ e.number → e.span.file ≡ field 2 (drop (24 * e.node) t) 18)
     (all_errors t names bytes n)
 audit_file = theorem_files.audit_filed

@@ -2,6 +2,7 @@
 --
 -- Theorems of the crate `audit` about the answer of `audit::audit` and the list of words at exit. Each statement is
 -- proved by citing the theorem. Assumes nothing.
+use Rattle.std.specs.Prelude.{Ok}
 use mathlib.Core.Path.{◌≡◌}
 use mathlib.Core.List.{List, ◌++◌}
 use Prim.Native.Nat.{ℕ, ◌*◌, ◌/◌, ◌≤◌}
@@ -11,7 +12,6 @@ use Rattle.errors.specs.Errors.{width}
 use Rattle.errors.specs.declared.Listing.TheVariants.{Audit}
 use Rattle.errors.proofs.Storing.{all_words}
 use Rattle.validate.specs.Job.{listed}
-use Rattle.validate.specs.declared.Listed.TheVariants.{Total}
 use Rattle.audit.specs.Job.{all_errors, audit_of, audit_after, enough_words}
 use Rattle.audit.proofs.Theorems as theorem
 
@@ -31,7 +31,7 @@ errors_few = theorem.errors_few
 -- the same for the total that is returned
 -- In words: a total that the audit returns is at most four times the number of nodes.
 pub total_few : (t names bytes : List ℕ) (edition n : ℕ)
-    → listed (Total n) ≡ audit_of t names bytes edition
+    → listed (Ok n) ≡ audit_of t names bytes edition
     → n ≤ 4 * (length t / 24)
 total_few = theorem.total_few
 

@@ -4,6 +4,8 @@
 -- content of the record `Given` is written as four hypotheses, that of `CutOf` and `Good` as five, and that of an
 -- answer field by field. Each statement is proved by citing the theorem: a theorem with one more field in a hypothesis,
 -- or one less in a conclusion, would not prove it. Assumes nothing.
+use Rattle.std.specs.Prelude.{Ok, Result}
+use Rattle.table.specs.declared.Refusal.{Refusal}
 use mathlib.Core.Path.{◌≡◌}
 use mathlib.Core.Logic.{◌⊎◌, ◌↔◌}
 use mathlib.Core.List.{List, [], ◌∷◌, ◌++◌}
@@ -21,8 +23,6 @@ use Rattle.deflist.specs.Unpack.{mode_pos_only, mode_pos_or_name, mode_name_only
 use Rattle.parameters.specs.Indices.{pos_only, pos_or_named, args_range, named_only, kwargs_range}
 use Rattle.parameters.specs.declared.Counted.{Counted}
 use Rattle.parameters.specs.Params.{unpacked, list_of, params_of, modes_after}
-use Rattle.parameters.specs.declared.Unpacked.{Unpacked}
-use Rattle.parameters.specs.declared.Unpacked.TheVariants.{Accepted}
 use Rattle.demand3.specs.Cut.{Cut, join, names_of, firsts, Defaulted, SlashGood, StarGood, parts_of, flat_list}
 use Rattle.demand3.specs.Cut.{cut_ranges, cut_flat, cut_values, holders}
 use Rattle.demand3.specs.Given.{all_parameters, Given, CutOf}
@@ -144,10 +144,10 @@ pub answer_has_the_ranges : (t names : List ℕ) (node : ℕ) (ms : List ℕ)
     → StarGood c.star
     → Distinct (names_of (join c))
     → Defaulted (firsts c.before ++ c.middle)
-    → (r : Unpacked)
+    → (r : Result Counted Refusal)
     → unpacked r ≡ params_of t names node (length ms)
     → (a : Counted)
-    × (r ≡ Accepted a)
+    × (r ≡ Ok a)
     × (pos_only a.indices ≡ (cut_ranges c).pos_only)
     × (pos_or_named a.indices ≡ (cut_ranges c).pos_or_named)
     × (args_range a.indices ≡ (cut_ranges c).args)

@@ -2,6 +2,8 @@
 --
 -- Theorems of the crate `fstring` about the contracts of `fstring::write` and `fstring::read`: an answer with its
 -- meaning, and the buffers at exit. Each statement is proved by citing the theorem. Assumes nothing.
+use Rattle.std.specs.Prelude.{Ok, Result, Some}
+use Rattle.table.specs.declared.Refusal.{Refusal}
 use mathlib.Core.Path.{◌≡◌}
 use mathlib.Core.Bool.{Bool, true, false}
 use mathlib.Core.Logic.{◌⊎◌}
@@ -9,7 +11,6 @@ use mathlib.Core.List.{List, [], ◌∷◌, ◌++◌}
 use Prim.Native.Nat.{ℕ, ◌*◌, ◌<◌, ◌≤◌}
 use lib.ListN.{length, get_or, take, drop}
 use Rattle.dialect.specs.declared.Dialect.{Dialect}
-use Rattle.dialect.specs.declared.Decoded.TheVariants.{Valid}
 use Rattle.dialect.specs.Bytes.{from_bytes}
 use Rattle.table.specs.Answer.{accepted, refused}
 use Rattle.fstring.specs.Parts.{Part, text, none, str, repr, opening, closing, is_brace, plain_form, repr_form, format_of}
@@ -19,7 +20,6 @@ use Rattle.fstring.specs.Words.{parts_of}
 use Rattle.fstring.specs.Writing.{parts_check, write_of, text_after, written}
 use Rattle.fstring.specs.Reading.{read_of, words_after, texts_after, got}
 use Rattle.fstring.specs.declared.Written.{Written}
-use Rattle.fstring.specs.declared.Written.TheVariants as written_as
 use Rattle.fstring.specs.declared.Reading.{Reading}
 use Rattle.fstring.specs.declared.Reading.TheVariants as read_as
 use Rattle.fstring.proofs.OverTheJobs as theorem
@@ -32,11 +32,11 @@ use Rattle.fstring.proofs.Examples as theorem_example
 -- the normal form and all text bytes, if there are two words for each of these parts and room for the text bytes, and
 -- each text is shorter than 2^32; the words at exit begin with those of the normal form, the bytes with the texts, and
 -- what is past them is unchanged.
-pub write_then_read : (ws ts ds d : List ℕ) (r : Written) (after : List ℕ)
+pub write_then_read : (ws ts ds d : List ℕ) (r : Result Written Refusal) (after : List ℕ)
     → written r ≡ write_of ws ts ds (length d)
     → after ≡ text_after ws ts ds d
     → {n : ℕ} {enabled : Bool}
-    → r ≡ written_as.Accepted n enabled
+    → r ≡ Ok (record { length = n; enabled = enabled })
     → (w x : List ℕ) (s : Reading) (w-after x-after : List ℕ)
     → got s ≡ read_of (take n after) (length w) (length x)
     → w-after ≡ words_after (take n after) w (length x)
@@ -59,12 +59,13 @@ pub read_then_write : (t w x : List ℕ) (s : Reading) (w-after x-after : List �
     → {k m : ℕ}
     → s ≡ read_as.Accepted k m
     → (ds d : List ℕ) (dialect : Dialect)
-    → from_bytes ds ≡ Valid dialect
+    → from_bytes ds ≡ Some dialect
     → length t ≤ length d
-    → (r : Written) (after : List ℕ)
+    → (r : Result Written Refusal) (after : List ℕ)
     → written r ≡ write_of (take (2 * k) w-after) (take m x-after) ds (length d)
     → after ≡ text_after (take (2 * k) w-after) (take m x-after) ds d
-    → (r ≡ written_as.Accepted (length t) dialect.enable_f_strings) × (after ≡ t ++ drop (length t) d)
+    → (r ≡ Ok (record { length = length t; enabled = dialect.enable_f_strings }))
+    × (after ≡ t ++ drop (length t) d)
 read_then_write = theorem.read_then_write
 
 -- "63 at the first brace that starts none of the four forms"

@@ -3,6 +3,7 @@
 -- Theorems of the crate `figured` about the report of files one after another: `report_of` is the answer of
 -- `figures::report`, `step_of` is the answer of `figures::step`, and `figures_after` the counters that it leaves. Each
 -- statement is proved by citing the theorem. Assumes nothing.
+use Rattle.std.specs.Prelude.{Ok}
 use mathlib.Core.Path.{◌≡◌}
 use mathlib.Core.Bool.{false}
 use mathlib.Core.List.{List, [], ◌∷◌, ◌++◌}
@@ -20,7 +21,6 @@ use Rattle.tablefile.proofs.Example.{content}
 use Rattle.figures.specs.Adding.{added}
 use Rattle.figures.specs.Counting.{mode_at, accepted_at, refused_at, over, numbers_of, error_counts, figures_of}
 use Rattle.figures.specs.Reporting.{most_files, step_of, figures_after, whole, ended_by, zeros, report_of}
-use Rattle.figures.specs.declared.Stepped.TheVariants.{Taken}
 use Rattle.figures.specs.declared.Ending.TheVariants.{Whole, Refused}
 use Rattle.figured.specs.Said.{summed, ended_by76, window_bytes, through, call_at, flat_at, sum_of, most_added}
 use Rattle.figured.proofs.Sums as theorem_sums
@@ -45,7 +45,7 @@ pub file_step : (c : Content) (rest figures : List ℕ)
     → ((i : ℕ) → get_or c.names i 0 < 256)
     → ((i : ℕ) → get_or c.dialect i 0 < 256)
     → get_or figures 0 0 < most_files
-    → (step_of (file_of c ++ rest) figures ≡ Taken (length (file_of c)))
+    → (step_of (file_of c ++ rest) figures ≡ Ok (length (file_of c)))
     × (figures_after (file_of c ++ rest) figures ≡ added figures (figures_of c))
 file_step c rest figures sound t n d room =
     let s : SoundContent c = record { sound = sound; table_bytes = t; names_bytes = n; dialect_bytes = d } in
@@ -175,7 +175,7 @@ errors_all = theorem_totals.errors_all
 pub file_few : (window figures : List ℕ)
     → (length window ≡ 0 → ⊥)
     → {n : ℕ}
-    → step_of window figures ≡ Taken n
+    → step_of window figures ≡ Ok n
     → (i : ℕ)
     → get_or (figures_of (content_at window)) i 0 ≤ most_added
 file_few = theorem_bounds.file_few
@@ -186,7 +186,7 @@ file_few = theorem_bounds.file_few
 pub step_plain : (window figures : List ℕ)
     → (length window ≡ 0 → ⊥)
     → {n : ℕ}
-    → step_of window figures ≡ Taken n
+    → step_of window figures ≡ Ok n
     → length figures ≡ 32
     → get_or figures 0 0 ≤ most_files
     → ((i : ℕ) → get_or figures i 0 ≤ most_added * get_or figures 0 0)

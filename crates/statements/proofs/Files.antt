@@ -2,13 +2,13 @@
 --
 -- Theorems of the crate `soundness` about the source file numbers of records. `files_sound` states the rule down the
 -- tree, as people do; the check goes along the index. Each statement is proved by citing the theorem. Assumes nothing.
+use Rattle.std.specs.Prelude.{None}
 use mathlib.Core.Path.{◌≡◌}
 use mathlib.Core.Bool.{true, false}
 use mathlib.Core.List.{List, [], map}
 use Prim.Native.Nat.{ℕ, ◌+◌, ◌*◌, ◌/◌, ◌<◌, ◌≤◌}
 use lib.ListN.{length, drop}
 use Rattle.forest.specs.Forest.{size_of, forest}
-use Rattle.forest.specs.declared.Found.TheVariants.{Nothing}
 use Rattle.soundness.specs.Files.{any_file, record_at, root_statements, files_sound}
 use Rattle.soundness.specs.Sound.{context, sound_at, root_sound, first_unsound}
 use Rattle.soundness.specs.FileCases.{Case, file_cases}
@@ -19,7 +19,7 @@ use Rattle.soundness.proofs.FileCases as theorem_cases
 -- root is the top-level statement."
 -- In words: if no record is unsound, the file numbers are sound down the tree.
 pub clean_files : (t names : List ℕ)
-    → first_unsound t names ≡ Nothing
+    → first_unsound t names ≡ None
     → files_sound (forest 0 t) ≡ true
 clean_files = theorem.clean_files
 
@@ -29,15 +29,15 @@ clean_files = theorem.clean_files
 pub clean_exactly : (t names : List ℕ)
     → root_sound t ≡ true
     → ((i : ℕ) → i < length t / 24 → sound_at (context (length names) any_file) i (drop (24 * i) t) ≡ true)
-    → (first_unsound t names ≡ Nothing → files_sound (forest 0 t) ≡ true)
-    × (files_sound (forest 0 t) ≡ true → first_unsound t names ≡ Nothing)
+    → (first_unsound t names ≡ None → files_sound (forest 0 t) ≡ true)
+    × (files_sound (forest 0 t) ≡ true → first_unsound t names ≡ None)
 clean_exactly = theorem.clean_exactly
 
 -- "every record under a top-level statement carries that statement's number": the same under any node
 -- In words: if no record is unsound, all records of a node's subtree have the number of that node, unless the node is a
 -- root Statements.
 pub subtree_file : (t names : List ℕ)
-    → first_unsound t names ≡ Nothing
+    → first_unsound t names ≡ None
     → (i : ℕ)
     → i < length t / 24
     → (i ≡ 0 → root_statements t ≡ false)

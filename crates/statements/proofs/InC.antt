@@ -2,17 +2,16 @@
 --
 -- Theorems of the crate `starlark_checks` about the contracts of `starlark_read` and `starlark_write`. `Read`, two
 -- equations, is written as two hypotheses. Each statement is proved by citing the theorem. Assumes nothing.
+use Rattle.std.specs.Prelude.{Ok, Option, ℕ}
 use mathlib.Core.Path.{◌≡◌}
 use mathlib.Core.List.{List, [], ◌∷◌, ◌++◌}
 use Prim.Native.Nat.{ℕ, ◌/◌, ◌<◌, ◌≤◌}
 use lib.ListN.{length, get_or, take, drop}
 use Rattle.fields.specs.Field.{field}
-use Rattle.dialect.specs.declared.Stated.{Stated}
 use Rattle.table.specs.Answer.{accepted}
 use Rattle.tablefile.specs.Reading.{header_at, content_at, number_held, read_check}
 use Rattle.tablefile.specs.Loading.{verdict, loaded_of, held}
 use Rattle.tablefile.specs.declared.Loaded.{Loaded}
-use Rattle.tablefile.specs.declared.Verdict.TheVariants.{Accepted}
 use Rattle.writer.specs.Writing.{holding, write_of, file_after}
 use Rattle.starlark_checks.specs.Words.{stated_of, stated_word, held_values, read_of}
 use Rattle.starlark_checks.proofs.ReadBack.{table_after, names_after}
@@ -24,7 +23,7 @@ use Rattle.starlark_checks.proofs.ReadBack as theorem
 pub read_accepts : (file : List ℕ) (l : Loaded)
     → verdict l.verdict ≡ read_check file
     → l ≡ loaded_of l.verdict (content_at file) (header_at file).taken
-    → l.verdict ≡ Accepted
+    → l.verdict ≡ Ok tt
     → (t ns : List ℕ)
     → length (held l).table ≤ length t
     → length (held l).names ≤ length ns
@@ -36,7 +35,7 @@ read_accepts file l v e = theorem.read_accepts file l (v, e)
 pub read_table : (file : List ℕ) (l : Loaded)
     → verdict l.verdict ≡ read_check file
     → l ≡ loaded_of l.verdict (content_at file) (header_at file).taken
-    → l.verdict ≡ Accepted
+    → l.verdict ≡ Ok tt
     → (t ns : List ℕ)
     → length (held l).table ≤ length t
     → length (held l).names ≤ length ns
@@ -48,7 +47,7 @@ read_table file l v e = theorem.read_table file l (v, e)
 pub read_names : (file : List ℕ) (l : Loaded)
     → verdict l.verdict ≡ read_check file
     → l ≡ loaded_of l.verdict (content_at file) (header_at file).taken
-    → l.verdict ≡ Accepted
+    → l.verdict ≡ Ok tt
     → (t ns : List ℕ)
     → length (held l).table ≤ length t
     → length (held l).names ≤ length ns
@@ -58,7 +57,7 @@ read_names file l v e = theorem.read_names file l (v, e)
 -- what `starlark_write` has written, `starlark_read` gives back: the counts, the dialect and the edition
 -- In words: it returns the numbers of nodes and of name bytes, whether there is a dialect, its nine bytes in words, the
 -- edition as it was written or the word for none, and the edition that applies.
-pub written_told : (t names ds : List ℕ) (e : Stated) (buffer : List ℕ) {n : ℕ}
+pub written_told : (t names ds : List ℕ) (e : Option ℕ) (buffer : List ℕ) {n : ℕ}
     → write_of (holding t names ds e) (length buffer) ≡ accepted (n ∷ [])
     → ((i : ℕ) → get_or t i 0 < 256)
     → ((i : ℕ) → get_or names i 0 < 256)
@@ -73,7 +72,7 @@ written_told = theorem.written_told
 
 -- and the table
 -- In words: the table's buffer then begins with the table that was written, and its other bytes are unchanged.
-pub written_table : (t names ds : List ℕ) (e : Stated) (buffer : List ℕ) {n : ℕ}
+pub written_table : (t names ds : List ℕ) (e : Option ℕ) (buffer : List ℕ) {n : ℕ}
     → write_of (holding t names ds e) (length buffer) ≡ accepted (n ∷ [])
     → ((i : ℕ) → get_or t i 0 < 256)
     → ((i : ℕ) → get_or names i 0 < 256)
@@ -86,7 +85,7 @@ written_table = theorem.written_table
 
 -- and the names
 -- In words: the names' buffer then begins with the names that were written, and its other bytes are unchanged.
-pub written_names : (t names ds : List ℕ) (e : Stated) (buffer : List ℕ) {n : ℕ}
+pub written_names : (t names ds : List ℕ) (e : Option ℕ) (buffer : List ℕ) {n : ℕ}
     → write_of (holding t names ds e) (length buffer) ≡ accepted (n ∷ [])
     → ((i : ℕ) → get_or t i 0 < 256)
     → ((i : ℕ) → get_or names i 0 < 256)

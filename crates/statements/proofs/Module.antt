@@ -2,6 +2,7 @@
 --
 -- Theorems of the crate `validate` about the answer of `validate::module` and the list of words at exit. Each statement
 -- is proved by citing the theorem. Assumes nothing.
+use Rattle.std.specs.Prelude.{Ok}
 use mathlib.Core.Path.{◌≡◌}
 use mathlib.Core.List.{List, ◌++◌}
 use Prim.Native.Nat.{ℕ, ◌*◌, ◌/◌, ◌≤◌}
@@ -11,7 +12,6 @@ use Rattle.errors.specs.Errors.{width}
 use Rattle.errors.specs.declared.Listing.TheVariants.{Module}
 use Rattle.errors.proofs.Storing.{all_words}
 use Rattle.validate.specs.Job.{errors_of, module_of, errors_after, listed}
-use Rattle.validate.specs.declared.Listed.TheVariants.{Total}
 use Rattle.validate.proofs.Theorems as theorem
 
 -- "No refusal changes a buffer": errors
@@ -29,7 +29,7 @@ errors_few = theorem.errors_few
 -- "never more than twice the node count": the total that is returned
 -- In words: a total that the job returns is at most twice the number of nodes.
 pub total_few : (t names bytes : List ℕ) (n : ℕ)
-    → listed (Total n) ≡ module_of t names bytes
+    → listed (Ok n) ≡ module_of t names bytes
     → n ≤ 2 * (length t / 24)
 total_few = theorem.total_few
 

@@ -2,13 +2,13 @@
 --
 -- Theorems of the crate `opening`: what happens to the errors of the module pass if a second dialect permits all that a
 -- first one does. Each statement is proved by citing the theorem. Assumes nothing.
+use Rattle.std.specs.Prelude.{Some}
 use mathlib.Core.Path.{◌≡◌}
 use mathlib.Core.Bool.{Bool, true, false}
 use mathlib.Core.List.{List, [], ◌∷◌, ◌++◌, map}
 use Prim.Native.Nat.{ℕ, ◌*◌, ◌≤◌}
 use lib.ListN.{length, drop, get_or}
 use Rattle.dialect.specs.declared.Dialect.{Dialect}
-use Rattle.dialect.specs.declared.Decoded.TheVariants.{Valid}
 use Rattle.dialect.specs.declared.Name.TheVariants.{Standard, Extended, AllOptionsInternal}
 use Rattle.dialect.specs.Rows.{record_of, dialect_named}
 use Rattle.dialect.specs.Bytes.{valid_bytes, from_bytes}
@@ -51,8 +51,8 @@ second_clause = theorem.second_clause
 -- In words: for any bytes that mean two dialects, of which the second permits all that the first does, a total of 0
 -- under the first is a total of 0 under the second.
 pub zero_stays : (t names first second : List ℕ) {d e : Dialect}
-    → from_bytes first ≡ Valid d
-    → from_bytes second ≡ Valid e
+    → from_bytes first ≡ Some d
+    → from_bytes second ≡ Some e
     → permits_all d e ≡ true
     → module_of t names first ≡ accepted (0 ∷ [])
     → module_of t names second ≡ accepted (0 ∷ [])
@@ -62,8 +62,8 @@ zero_stays = theorem_job.zero_stays
 -- In words: if both also agree on top-level statements, the errors of a table under the second are those under the
 -- first without the numbers of the newly opened switches, in order.
 pub errors_opened : (t names first second : List ℕ) {d e : Dialect}
-    → from_bytes first ≡ Valid d
-    → from_bytes second ≡ Valid e
+    → from_bytes first ≡ Some d
+    → from_bytes second ≡ Some e
     → permits_all d e ≡ true
     → d.enable_top_level_stmt ≡ e.enable_top_level_stmt
     → errors_of t names second ≡ without (opened d e) (errors_of t names first)
@@ -72,8 +72,8 @@ errors_opened = theorem_job.errors_opened
 -- the errors that are left: the answer
 -- In words: the answer is the number of the errors that are left, or the same refusal.
 pub total_opened : (t names first second : List ℕ) {d e : Dialect}
-    → from_bytes first ≡ Valid d
-    → from_bytes second ≡ Valid e
+    → from_bytes first ≡ Some d
+    → from_bytes second ≡ Some e
     → permits_all d e ≡ true
     → d.enable_top_level_stmt ≡ e.enable_top_level_stmt
     → module_of t names second
@@ -84,8 +84,8 @@ total_opened = theorem_job.total_opened
 -- In words: a list of words with room for the errors under the first holds at exit those that are left, and its other
 -- words are unchanged.
 pub words_opened : (t names first second : List ℕ) {d e : Dialect}
-    → from_bytes first ≡ Valid d
-    → from_bytes second ≡ Valid e
+    → from_bytes first ≡ Some d
+    → from_bytes second ≡ Some e
     → permits_all d e ≡ true
     → d.enable_top_level_stmt ≡ e.enable_top_level_stmt
     → (ws : List ℕ)
@@ -101,8 +101,8 @@ words_opened = theorem_job.words_opened
 pub opening_bytes : (first second : List ℕ) {d e : Dialect}
     → valid_bytes first ≡ true
     → valid_bytes second ≡ true
-    → from_bytes first ≡ Valid d
-    → from_bytes second ≡ Valid e
+    → from_bytes first ≡ Some d
+    → from_bytes second ≡ Some e
     → permits_all d e ≡ true
     → (i : ℕ)
     → get_or first i 0 ≤ get_or second i 0
@@ -114,8 +114,8 @@ opening_bytes = theorem_job.opening_bytes
 pub bytes_opening : (first second : List ℕ) {d e : Dialect}
     → valid_bytes first ≡ true
     → valid_bytes second ≡ true
-    → from_bytes first ≡ Valid d
-    → from_bytes second ≡ Valid e
+    → from_bytes first ≡ Some d
+    → from_bytes second ≡ Some e
     → ((i : ℕ) → get_or first i 0 ≤ get_or second i 0)
     → permits_all d e ≡ true
 bytes_opening = theorem_job.bytes_opening

@@ -2,13 +2,13 @@
 --
 -- Theorems of the crate `openaudit`: what happens to the errors of the audit, for the number of any edition, if a
 -- second dialect permits all that a first one does. Each statement is proved by citing the theorem. Assumes nothing.
+use Rattle.std.specs.Prelude.{Some}
 use mathlib.Core.Path.{◌≡◌}
 use mathlib.Core.Bool.{Bool, true}
 use mathlib.Core.List.{List, [], ◌∷◌}
 use Prim.Native.Nat.{ℕ}
 use lib.ListN.{length}
 use Rattle.dialect.specs.declared.Dialect.{Dialect}
-use Rattle.dialect.specs.declared.Decoded.TheVariants.{Valid}
 use Rattle.dialect.specs.Rows.{permits_types}
 use Rattle.dialect.specs.Editions.{edition_of}
 use Rattle.dialect.specs.Bytes.{from_bytes}
@@ -25,8 +25,8 @@ use Rattle.openaudit.proofs.Example as theorem_example
 -- In words: for any bytes that mean two dialects, of which the second permits all that the first does, an audit that
 -- finds nothing under the first finds nothing under the second.
 pub audit_zero_stays : (t names first second : List ℕ) (n : ℕ) {d e : Dialect}
-    → from_bytes first ≡ Valid d
-    → from_bytes second ≡ Valid e
+    → from_bytes first ≡ Some d
+    → from_bytes second ≡ Some e
     → permits_all d e ≡ true
     → audit_of t names first n ≡ accepted (0 ∷ [])
     → audit_of t names second n ≡ accepted (0 ∷ [])
@@ -36,8 +36,8 @@ audit_zero_stays = theorem.audit_zero_stays
 -- In words: if both agree on top-level statements, and both have types or neither has, the errors of the audit under
 -- the second are those under the first without the numbers of the newly opened switches, in order.
 pub audit_opened : (t names first second : List ℕ) (n : ℕ) {d e : Dialect}
-    → from_bytes first ≡ Valid d
-    → from_bytes second ≡ Valid e
+    → from_bytes first ≡ Some d
+    → from_bytes second ≡ Some e
     → permits_all d e ≡ true
     → d.enable_top_level_stmt ≡ e.enable_top_level_stmt
     → permits_types d.enable_types ≡ permits_types e.enable_types
@@ -47,8 +47,8 @@ audit_opened = theorem.audit_opened
 -- the errors that are left: the audit's answer
 -- In words: under the same conditions the answer is the number of the errors that are left, or the same refusal.
 pub audit_total_opened : (t names first second : List ℕ) (n : ℕ) {d e : Dialect}
-    → from_bytes first ≡ Valid d
-    → from_bytes second ≡ Valid e
+    → from_bytes first ≡ Some d
+    → from_bytes second ≡ Some e
     → permits_all d e ≡ true
     → d.enable_top_level_stmt ≡ e.enable_top_level_stmt
     → permits_types d.enable_types ≡ permits_types e.enable_types

@@ -2,13 +2,13 @@
 --
 -- Theorems of the crate `soundness` about the sizes of records: when a record is whole, and that a table is sound if
 -- its root and all its nodes are. Each statement is proved by citing the theorem. Assumes nothing.
+use Rattle.std.specs.Prelude.{None}
 use mathlib.Core.Path.{◌≡◌}
 use mathlib.Core.Bool.{true}
 use mathlib.Core.List.{List}
 use Prim.Native.Nat.{ℕ, ◌+◌, ◌*◌, ◌/◌, ◌<◌, ◌≤◌}
 use lib.ListN.{length, drop}
 use Rattle.forest.specs.Forest.{size_of, node_of, kids_of, forest}
-use Rattle.forest.specs.declared.Found.TheVariants.{Nothing}
 use Rattle.soundness.specs.Sound.{whole_tree, root_sound, context_of, first_unsound}
 use Rattle.soundness.proofs.SoundTables.{all_sound}
 use Rattle.soundness.proofs.SoundTables as theorem
@@ -33,7 +33,7 @@ size_fits_whole = theorem.size_fits_whole
 -- In a sound table the size of a record is what its field says: no subtree is cut off.
 -- In words: if no record is unsound, the subtree of each node is not empty and ends within the table.
 pub here_size : (t names : List ℕ)
-    → first_unsound t names ≡ Nothing
+    → first_unsound t names ≡ None
     → (i : ℕ)
     → i < length t / 24
     → (1 ≤ size_of (drop (24 * i) t)) × (24 * (i + size_of (drop (24 * i) t)) ≤ length t)
@@ -46,5 +46,5 @@ pub sound_clean : (t names : List ℕ)
     → root_sound t ≡ true
     → 24 * (length t / 24) ≡ length t
     → all_sound (context_of t names) (forest 0 t) ≡ true
-    → first_unsound t names ≡ Nothing
+    → first_unsound t names ≡ None
 sound_clean t names root whole all = theorem.sound_clean t names root record { records = whole; nodes = all }

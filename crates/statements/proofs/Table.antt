@@ -2,6 +2,7 @@
 --
 -- Theorems of the crate `table` about the answer of `table::check`. The content of the records `Clean`, `First` and
 -- `FirstDeeper` is written field by field. Each statement is proved by citing the theorem. Assumes nothing.
+use Rattle.std.specs.Prelude.{None}
 use mathlib.Core.Path.{◌≡◌}
 use mathlib.Core.Bool.{true, false}
 use mathlib.Core.Logic.{◌⊎◌}
@@ -10,7 +11,6 @@ use Prim.Native.Nat.{ℕ, ◌+◌, ◌*◌, ◌/◌, ◌<◌, ◌≤◌}
 use lib.ListN.{length, get_or, drop}
 use Rattle.fields.specs.Field.{field}
 use Rattle.forest.specs.Forest.{size_of, node_of, forest}
-use Rattle.forest.specs.declared.Found.TheVariants.{Nothing}
 use Rattle.soundness.specs.KindNumbers.{kind_statements}
 use Rattle.soundness.specs.Kinds.{statement, expression, class_of}
 use Rattle.soundness.specs.Files.{record_at, root_statements, files_sound}
@@ -31,8 +31,8 @@ pub clean_accepted : (t names : List ℕ)
     → length t ≤ 50400
     → 24 * (length t / 24) ≡ length t
     → length names ≤ 8064
-    → first_unsound t names ≡ Nothing
-    → first_deep 0 (forest 0 t) ≡ Nothing
+    → first_unsound t names ≡ None
+    → first_deep 0 (forest 0 t) ≡ None
     → check_of t names ≡ accepted []
 clean_accepted t names least most whole few unsound deep = theorem.clean_accepted t names
     record { least = least; most = most; whole = whole; few = few; unsound = unsound; deep = deep }
@@ -46,8 +46,8 @@ pub accepted_clean : (t names : List ℕ) {vs : List ℕ}
     × (length t ≤ 50400)
     × (24 * (length t / 24) ≡ length t)
     × (length names ≤ 8064)
-    × (first_unsound t names ≡ Nothing)
-    × (first_deep 0 (forest 0 t) ≡ Nothing)
+    × (first_unsound t names ≡ None)
+    × (first_deep 0 (forest 0 t) ≡ None)
 accepted_clean t names e =
     let c = theorem_checking.accepted_clean t names e in
     (c.least, c.most, c.whole, c.few, c.unsound, c.deep)
@@ -86,7 +86,7 @@ unsound_first t names k e =
 -- depth, and none before it is.
 pub deep_is_first : (t names : List ℕ) (k : ℕ)
     → check_of t names ≡ refused too_deep (k ∷ [])
-    → (first_unsound t names ≡ Nothing)
+    → (first_unsound t names ≡ None)
     × (k < length (depths 0 (forest 0 t)))
     × (most_depth < get_or (depths 0 (forest 0 t)) k 0)
     × ((j : ℕ) → j < k → get_or (depths 0 (forest 0 t)) j 0 ≤ most_depth)

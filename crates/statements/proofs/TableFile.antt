@@ -3,19 +3,18 @@
 -- Theorems of the crate `tablefile` about the contract of `tablefile::read`: `Read`, two equations, is written as two
 -- hypotheses, and so is the content of the record `SoundContent`. Each statement is proved by citing the theorem.
 -- Assumes nothing.
+use Rattle.std.specs.Prelude.{Err, None, Ok, Some}
 use mathlib.Core.Path.{◌≡◌, ap}
 use mathlib.Core.Logic.{◌⊎◌}
 use mathlib.Core.List.{List, []}
 use Prim.Native.Nat.{ℕ, ◌<◌}
 use lib.ListN.{length, get_or, set}
-use Rattle.dialect.specs.declared.Stated.TheVariants.{Number, Nothing}
 use Rattle.table.specs.Numbers.{block_check}
 use Rattle.table.specs.Answer.{accepted}
 use Rattle.table.specs.declared.Refusal.TheVariants.{Bare}
 use Rattle.tablefile.specs.File.{Content, file_of}
 use Rattle.tablefile.specs.Reading.{header_at, content_at, number_held, sound_check, read_check}
 use Rattle.tablefile.specs.Loading.{verdict, loaded_of, none, held}
-use Rattle.tablefile.specs.declared.Verdict.TheVariants.{Accepted, Refused}
 use Rattle.tablefile.specs.declared.Loaded.{Loaded}
 use Rattle.tablefile.proofs.Theorems as theorem
 
@@ -25,7 +24,7 @@ pub accepted_is_file : (file : List ℕ) (r : Loaded)
     → ((i : ℕ) → get_or file i 0 < 256)
     → verdict r.verdict ≡ read_check file
     → r ≡ loaded_of r.verdict (content_at file) (header_at file).taken
-    → r.verdict ≡ Accepted
+    → r.verdict ≡ Ok tt
     → file ≡ file_of (held r)
 accepted_is_file file r small v l = theorem.accepted_is_file file r small (v, l)
 
@@ -34,7 +33,7 @@ accepted_is_file file r small v l = theorem.accepted_is_file file r small (v, l)
 pub accepted_is_sound : (file : List ℕ) (r : Loaded)
     → verdict r.verdict ≡ read_check file
     → r ≡ loaded_of r.verdict (content_at file) (header_at file).taken
-    → r.verdict ≡ Accepted
+    → r.verdict ≡ Ok tt
     → sound_check (held r) ≡ accepted []
 accepted_is_sound file r v l = theorem.accepted_is_sound file r (v, l)
 
@@ -48,7 +47,7 @@ pub file_read_back : (c : Content) (r : Loaded)
     → ((i : ℕ) → get_or c.dialect i 0 < 256)
     → verdict r.verdict ≡ read_check (file_of c)
     → r ≡ loaded_of r.verdict (content_at (file_of c)) (header_at (file_of c)).taken
-    → r ≡ loaded_of Accepted c (length (file_of c))
+    → r ≡ loaded_of (Ok tt) c (length (file_of c))
 file_read_back c r sound t n d v l = theorem.file_read_back c r
     record { sound = sound; table_bytes = t; names_bytes = n; dialect_bytes = d } (v, l)
 
@@ -57,12 +56,12 @@ file_read_back c r sound t n d v l = theorem.file_read_back c r
 pub changed_byte : (file : List ℕ) (r : Loaded) (i v : ℕ) (s : Loaded)
     → verdict r.verdict ≡ read_check file
     → r ≡ loaded_of r.verdict (content_at file) (header_at file).taken
-    → r.verdict ≡ Accepted
+    → r.verdict ≡ Ok tt
     → i < length file
     → (v ≡ get_or file i 0 → ⊥)
     → verdict s.verdict ≡ read_check (set file i v)
     → s ≡ loaded_of s.verdict (content_at (set file i v)) (header_at (set file i v)).taken
-    → s ≡ loaded_of (Refused (Bare block_check)) none 0
+    → s ≡ loaded_of (Err (Bare block_check)) none 0
 changed_byte file r i v s a b good h other c d = theorem.changed_byte file r i v s (a, b) good h other (c, d)
 
 -- "An edition other than 1 or 2 is 5": in an accepted file the edition is 1 or 2, and without it 1 (W-212)
@@ -70,9 +69,9 @@ changed_byte file r i v s a b good h other c d = theorem.changed_byte file r i v
 pub accepted_edition : (file : List ℕ) (r : Loaded)
     → verdict r.verdict ≡ read_check file
     → r ≡ loaded_of r.verdict (content_at file) (header_at file).taken
-    → r.verdict ≡ Accepted
+    → r.verdict ≡ Ok tt
     → ((number_held r.edition ≡ 1) ⊎ (number_held r.edition ≡ 2))
-    × (r.edition ≡ Nothing → number_held r.edition ≡ 1)
+    × (r.edition ≡ None → number_held r.edition ≡ 1)
 accepted_edition file r v l good = (theorem.accepted_edition file r (v, l) good, λ none. ap number_held none)
 
 -- "13 used bytes and 14 used bytes with edition 1 are different files" (W-212)
@@ -86,8 +85,8 @@ pub first_is_seen : (c d : Content)
     → ((i : ℕ) → get_or d.table i 0 < 256)
     → ((i : ℕ) → get_or d.names i 0 < 256)
     → ((i : ℕ) → get_or d.dialect i 0 < 256)
-    → c.edition ≡ Nothing
-    → d.edition ≡ Number 1
+    → c.edition ≡ None
+    → d.edition ≡ Some 1
     → file_of c ≡ file_of d
     → ⊥
 first_is_seen c d c-sound c-t c-n c-d d-sound d-t d-n d-d = theorem.first_is_seen c d

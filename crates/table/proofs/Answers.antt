@@ -3,6 +3,8 @@
 -- have different lengths of values, and equal ones have equal values part by part. Below are laws of steps in order
 -- (`and_then`): a refusal comes from the first step that refuses (`first_refused`), and where the whole is accepted
 -- every step is passed (`passed_both`, `test_passed`). They split on what the first step gave. Assumes nothing.
+use Rattle.std.specs.Prelude.{Err, None, Ok, Option, Result, Some, ℕ}
+use Rattle.dialect.specs.declared.Dialect.{Dialect}
 use mathlib.Core.Path.{◌≡◌, refl, sym, ap, ◌∙◌}
 use mathlib.Core.Bool.{Bool, true, false}
 use mathlib.Core.List.{List, [], ◌∷◌, ◌++◌}
@@ -13,42 +15,35 @@ use Rattle.table.specs.Answer.{Answer, accepted, refused, passes, and_then, numb
 use Rattle.table.specs.Answer.{checked, node_in, extent_in, earlier_in, earlier_values, span_values}
 use Rattle.table.specs.Check.{given}
 use Rattle.table.specs.declared.Span.{Span}
-use Rattle.table.specs.declared.Place.{Place}
-use Rattle.table.specs.declared.Place.TheVariants.{At, Nothing}
-use Rattle.table.specs.declared.Extent.TheVariants.{Of}
-use Rattle.table.specs.declared.Given.{Given}
-use Rattle.table.specs.declared.Given.TheVariants.{In, Refused as Away}
 use Rattle.table.specs.declared.Refusal.{Refusal}
 use Rattle.table.specs.declared.Refusal.TheVariants.{Bare, Placed, Spanned}
-use Rattle.table.specs.declared.Checked.{Checked}
-use Rattle.table.specs.declared.Checked.TheVariants.{Sound, Refused}
 
 pub span_injective : (s u : Span) → s.begin ≡ u.begin → s.end ≡ u.end → s.file ≡ u.file → s ≡ u
 span_injective s u b e f = λ i. record { begin = b i; end = e i; file = f i }
 
 -- what a refusal carries, by its variant
 module _ (why : Refusal) {n k : ℕ} where
-  pub number_spanned : {s : Span} {e : Place} → why ≡ Spanned n k s e → n ≡ number_of why
+  pub number_spanned : {s : Span} {e : Option ℕ} → why ≡ Spanned n k s e → n ≡ number_of why
   number_spanned h = rw h refl
 
-  pub node_placed : why ≡ Placed n k → At k ≡ node_in why
+  pub node_placed : why ≡ Placed n k → Some k ≡ node_in why
   node_placed h = rw h refl
 
-  pub node_spanned : {s : Span} {e : Place} → why ≡ Spanned n k s e → At k ≡ node_in why
+  pub node_spanned : {s : Span} {e : Option ℕ} → why ≡ Spanned n k s e → Some k ≡ node_in why
   node_spanned h = rw h refl
 
-  pub extent_spanned : {s : Span} {e : Place} → why ≡ Spanned n k s e → Of s ≡ extent_in why
+  pub extent_spanned : {s : Span} {e : Option ℕ} → why ≡ Spanned n k s e → Some s ≡ extent_in why
   extent_spanned h = rw h refl
 
-  pub earlier_spanned : {s : Span} {e : Place} → why ≡ Spanned n k s e → e ≡ earlier_in why
+  pub earlier_spanned : {s : Span} {e : Option ℕ} → why ≡ Spanned n k s e → e ≡ earlier_in why
   earlier_spanned h = rw h refl
 
 -- no two places have the same values
-earlier_injective : (p q : Place) → earlier_values p ≡ earlier_values q → p ≡ q
-earlier_injective (At i) (At j) e = let same : i ≡ j = cc in ap At same
-earlier_injective (At i) Nothing e = never (cc)
-earlier_injective Nothing (At j) e = never (cc)
-earlier_injective Nothing Nothing e = refl
+earlier_injective : (p q : Option ℕ) → earlier_values p ≡ earlier_values q → p ≡ q
+earlier_injective (Some i) (Some j) e = let same : i ≡ j = cc in ap Some same
+earlier_injective (Some i) None e = never (cc)
+earlier_injective None (Some j) e = never (cc)
+earlier_injective None None e = refl
 
 pub refusal_injective : (r s : Refusal) → refusal r ≡ refusal s → r ≡ s
 refusal_injective (Bare n) (Bare m) e = cc
@@ -87,21 +82,21 @@ never_passed e = never (cc)
 pub never_accepted : {P : Type 0} (r : Refusal) {vs : List ℕ} → refusal r ≡ accepted vs → P
 never_accepted r e = never (cc)
 
-pub checked_injective : (r s : Checked) → checked r ≡ checked s → r ≡ s
-checked_injective Sound Sound e = refl
-checked_injective Sound (Refused s) e = never_accepted s (sym e)
-checked_injective (Refused r) Sound e = never_accepted r e
-checked_injective (Refused r) (Refused s) e = ap Refused (refusal_injective r s e)
+pub checked_injective : (r s : Result (Unit {0}) Refusal) → checked r ≡ checked s → r ≡ s
+checked_injective (Ok _) (Ok _) e = refl
+checked_injective (Ok _) (Err s) e = never_accepted s (sym e)
+checked_injective (Err r) (Ok _) e = never_accepted r e
+checked_injective (Err r) (Err s) e = ap Err (refusal_injective r s e)
 
 -- no two things that a job in a dialect is given mean the same
-pub given_injective : (r s : Given) → given r ≡ given s → r ≡ s
-given_injective (In d) (In f) e = let same : d ≡ f = cc in ap In same
-given_injective (In d) (Away s) e = never (cc)
-given_injective (Away r) (In f) e = never (cc)
-given_injective (Away r) (Away s) e =
+pub given_injective : (r s : Result Dialect Refusal) → given r ≡ given s → r ≡ s
+given_injective (Ok d) (Ok f) e = let same : d ≡ f = cc in ap Ok same
+given_injective (Ok d) (Err s) e = never (cc)
+given_injective (Err r) (Ok f) e = never (cc)
+given_injective (Err r) (Err s) e =
     let numbers : number_of r ≡ number_of s = cc in
     let values : carried r ≡ carried s = cc in
-    ap Away (refusal_injective r s (λ i. refused (numbers i) (values i)))
+    ap Err (refusal_injective r s (λ i. refused (numbers i) (values i)))
 
 -- LAWS of a step x, where what follows it is accepted: a refusal is its own; and if the whole is accepted, it is passed
 module _ (x : Answer) (vs : List ℕ) where

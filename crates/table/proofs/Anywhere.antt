@@ -1,6 +1,7 @@
 -- Whether a stretch has a node that is too deep depends on the depth of what it is in and not on its place in the
 -- table: the place is only what a refusal carries. The induction is on the forest of the stretch. Cite `flat_anywhere`.
 -- Assumes nothing.
+use Rattle.std.specs.Prelude.{None, Option, Some, ℕ}
 use mathlib.Core.Path.{◌≡◌, refl, sym, ap, ◌∙◌}
 use mathlib.Core.Bool.{Bool, true, false, ◌&&◌}
 use mathlib.Core.List.{List}
@@ -9,17 +10,15 @@ use lib.ListN.{length}
 use lib.Dec.{ltb}
 use Rattle.fields.specs.Choice.{if'}
 use Rattle.forest.specs.Forest.{node_of, span_of, kids_of, rest_of, Forest, forest, tree_of}
-use Rattle.forest.specs.declared.Found.{Found}
-use Rattle.forest.specs.declared.Found.TheVariants.{At, Nothing}
 use Rattle.forest.proofs.Stretch.{forest_none, forest_tree, forest_induction}
 use Rattle.soundness.specs.Sound.{clear}
 use Rattle.table.specs.Depth.{most_depth, weight, or_else, first_deep, deep_in}
 
-pub clear_or : (x y : Found) → clear (or_else x (λ _. y)) ≡ (clear x && clear y)
-clear_or (At i) y = refl
-clear_or Nothing y = refl
+pub clear_or : (x y : Option ℕ) → clear (or_else x (λ _. y)) ≡ (clear x && clear y)
+clear_or (Some i) y = refl
+clear_or None y = refl
 
-clear_if : (b : Bool) (i : ℕ) (y : Found) → clear (if' b (λ _. At i) (λ _. y)) ≡ if' b (λ _. false) (λ _. clear y)
+clear_if : (b : Bool) (i : ℕ) (y : Option ℕ) → clear (if' b (λ _. Some i) (λ _. y)) ≡ if' b (λ _. false) (λ _. clear y)
 clear_if true i y = refl
 clear_if false i y = refl
 

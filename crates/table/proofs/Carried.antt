@@ -3,6 +3,8 @@
 -- steps in order if it holds of each (`before_then`), hence of 1 to 4, of 1 to 5, and of 1 to 4 and 6 (`check_before`,
 -- `given_before`, `entry_before`). So where a job refuses with m, its own rule does (`from_next`), and only that rule
 -- has to be looked at (`carries_then`). Assumes nothing.
+use Rattle.std.specs.Prelude.{None, Option, Some, ℕ}
+use Rattle.dialect.specs.declared.Dialect.{Dialect}
 use mathlib.Core.Path.{◌≡◌}
 use mathlib.Core.Bool.{Bool, true, false}
 use mathlib.Core.List.{List, []}
@@ -12,11 +14,7 @@ use lib.ListN.{length}
 use lib.Dec.{leb}
 use Rattle.fields.specs.Choice.{if'}
 use Rattle.forest.specs.Forest.{forest}
-use Rattle.forest.specs.declared.Found.{Found}
-use Rattle.forest.specs.declared.Found.TheVariants.{At, Nothing}
 use Rattle.dialect.specs.Bytes.{from_bytes}
-use Rattle.dialect.specs.declared.Decoded.{Decoded}
-use Rattle.dialect.specs.declared.Decoded.TheVariants.{Valid, Invalid}
 use Rattle.soundness.specs.Sound.{first_unsound}
 use Rattle.table.specs.Numbers.{table_length, name_bytes, unsound_record, too_deep, wrong_node}
 use Rattle.table.specs.Depth.{first_deep}
@@ -40,9 +38,9 @@ module _ (m : ℕ) where
   before_test true n h = tt
   before_test false n h = (h, omega arith)
 
-  before_found : (n : ℕ) (f : Found) → n < m → Before m (none_found n f)
-  before_found n (At i) h = (h, omega arith)
-  before_found n Nothing h = tt
+  before_found : (n : ℕ) (f : Option ℕ) → n < m → Before m (none_found n f)
+  before_found n (Some i) h = (h, omega arith)
+  before_found n None h = tt
 
   -- LAWS: what such a step carries, and that m comes from what follows it
   pub carries_then : (x : Answer) (next : Unit {0} → Answer) → Before m x → OnlyCarries m (next tt)
@@ -70,9 +68,9 @@ pub given_before : (m : ℕ) (t names bytes : List ℕ) → 6 < m → Before m (
 unfolding given_of
 given_before m t names bytes h = go (check_of t names) (from_bytes bytes) (check_before m t names h)
   where
-    go : (a : Answer) (x : Decoded) → Before m a → Before m (in_given (handing a x) (λ _. accepted []))
-    go (accepted vs) (Valid d) b = tt
-    go (accepted vs) Invalid b = (omega arith, omega arith)
+    go : (a : Answer) (x : Option Dialect) → Before m a → Before m (in_given (handing a x) (λ _. accepted []))
+    go (accepted vs) (Some d) b = tt
+    go (accepted vs) None b = (omega arith, omega arith)
     go (refused n vs) x b = b
 
 pub entry_before : (m : ℕ) (w : Wanted) (t names : List ℕ) (i : ℕ) → 6 < m → Before m (entry_check w t names i)

@@ -3,6 +3,7 @@
 -- passed all four steps (`accepted_clean`; Answers' `passed_both`, step by step), and the record `Clean` names what it
 -- then knows. In a clean table the stretch of a node is sound and as long as its record says (`stretch_sound`,
 -- `stretch_size`, from soundness), and begins with that record (`record_kept`). Assumes nothing.
+use Rattle.std.specs.Prelude.{None, Option, Some, ℕ}
 use mathlib.Core.Path.{◌≡◌, refl, sym, ap, ◌∙◌}
 use mathlib.Core.Bool.{Bool, true, false}
 use mathlib.Core.List.{List, [], ◌∷◌}
@@ -14,8 +15,6 @@ use borrow.Author.Tests.{le-leb, lt-leb, leb-true, eqb-true, lt-ltb}
 use Rattle.fields.proofs.Basics.{and_left, and_right}
 use Rattle.table.proofs.Answers.{never_passed, passed_both, test_passed}
 use Rattle.forest.specs.Forest.{Node, node_of, size_of, forest}
-use Rattle.forest.specs.declared.Found.{Found}
-use Rattle.forest.specs.declared.Found.TheVariants.{At, Nothing}
 use Rattle.forest.proofs.Stretch.{node_take}
 use Rattle.table.specs.Numbers.{table_length, name_bytes, unsound_record, too_deep}
 use Rattle.soundness.specs.Sound.{context_of, record_sound, first_unsound}
@@ -36,7 +35,7 @@ length_whole n e =
     omega arith
 
 -- a node that a search finds is one of the table
-unsound_inside : (t names : List ℕ) {i : ℕ} {f : Found} → f ≡ first_unsound t names → f ≡ At i → i < length t / 24
+unsound_inside : (t names : List ℕ) {i : ℕ} {f : Option ℕ} → f ≡ first_unsound t names → f ≡ Some i → i < length t / 24
 unfolding first_unsound
 unsound_inside t names {i} f-is at = omega
     (arith, (found (record_sound t names) (length t / 24) i (sym f-is ∙ at)).within)
@@ -55,30 +54,30 @@ module _ (t names : List ℕ) {l : Bool} (l-is : l ≡ length_sound (length t)) 
     unfolding check_of
     check_names h = rw (good, lt-leb (length names) 8064 h) refl
 
-    pub unsound_small : {u : Found} → u ≡ first_unsound t names → {i : ℕ} → u ≡ At i → i < 4294967296
+    pub unsound_small : {u : Option ℕ} → u ≡ first_unsound t names → {i : ℕ} → u ≡ Some i → i < 4294967296
     unsound_small u-is at = omega (arith, unsound_inside t names u-is at, length_whole (length t) good)
 
-    module _ (few : length names ≤ 8064) {u : Found} (u-is : u ≡ first_unsound t names) where
-      pub check_unsound : {i : ℕ} → u ≡ At i → refused unsound_record (i ∷ []) ≡ check_of t names
+    module _ (few : length names ≤ 8064) {u : Option ℕ} (u-is : u ≡ first_unsound t names) where
+      pub check_unsound : {i : ℕ} → u ≡ Some i → refused unsound_record (i ∷ []) ≡ check_of t names
       unfolding check_of
       check_unsound at = rw (good, le-leb (length names) 8064 few, ← u-is, at) refl
 
-      module _ (clean : u ≡ Nothing) {d : Found} (d-is : d ≡ first_deep 0 (forest 0 t)) where
-        pub check_deep : {i : ℕ} → d ≡ At i → refused too_deep (i ∷ []) ≡ check_of t names
+      module _ (clean : u ≡ None) {d : Option ℕ} (d-is : d ≡ first_deep 0 (forest 0 t)) where
+        pub check_deep : {i : ℕ} → d ≡ Some i → refused too_deep (i ∷ []) ≡ check_of t names
         unfolding check_of
         check_deep at = rw (good, le-leb (length names) 8064 few, ← u-is, clean, ← d-is, at) refl
 
-        pub deep_small : {i : ℕ} → d ≡ At i → i < 4294967296
+        pub deep_small : {i : ℕ} → d ≡ Some i → i < 4294967296
         deep_small {i} at = omega (arith, deep_inside 0 t 0 i (sym d-is ∙ at), length_whole (length t) good)
 
-        pub check_sound : d ≡ Nothing → accepted [] ≡ check_of t names
+        pub check_sound : d ≡ None → accepted [] ≡ check_of t names
         unfolding check_of
         check_sound flat = rw (good, le-leb (length names) 8064 few, ← u-is, clean, ← d-is, flat) refl
 
 -- a search that is passed found nothing, and has no values
-none_passed : (n : ℕ) (f : Found) {ws : List ℕ} → none_found n f ≡ accepted ws → (f ≡ Nothing) × (ws ≡ [])
-none_passed n (At i) e = never_passed e
-none_passed n Nothing e = (refl, cc)
+none_passed : (n : ℕ) (f : Option ℕ) {ws : List ℕ} → none_found n f ≡ accepted ws → (f ≡ None) × (ws ≡ [])
+none_passed n (Some i) e = never_passed e
+none_passed n None e = (refl, cc)
 
 -- LAW: a table that the check accepts has a sound length, few name bytes, no unsound record and no node that is too
 -- deep
@@ -87,8 +86,8 @@ pub record Clean (t names : List ℕ) : Type 0 where
   pub most : length t ≤ 50400
   pub whole : 24 * (length t / 24) ≡ length t
   pub few : length names ≤ 8064
-  pub unsound : first_unsound t names ≡ Nothing
-  pub deep : first_deep 0 (forest 0 t) ≡ Nothing
+  pub unsound : first_unsound t names ≡ None
+  pub deep : first_deep 0 (forest 0 t) ≡ None
 
 module _ (t names : List ℕ) {vs : List ℕ} (e : check_of t names ≡ accepted vs) where
   passed_all : Clean t names × (vs ≡ [])

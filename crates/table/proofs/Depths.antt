@@ -4,6 +4,7 @@
 -- (`over_fails`). So `deep_first` and `deep_nowhere` follow: cite these. The node that is found also counts
 -- (`deep_counts`, by the same induction): its parent is not too deep, so its own record added to the depth. Assumes
 -- nothing.
+use Rattle.std.specs.Prelude.{None, Option, Some, ℕ}
 use mathlib.Core.Path.{◌≡◌, refl, sym, ap, ◌∙◌}
 use mathlib.Core.Bool.{Bool, true, false, not}
 use mathlib.Core.List.{List, [], ◌∷◌, ◌++◌}
@@ -18,8 +19,6 @@ use Rattle.fields.proofs.Basics.{never, drop_take}
 use Rattle.fields.specs.Choice.{if'}
 use Rattle.forest.specs.Forest.{node_of, span_of, kids_of, rest_of, forest, Tree, node, Forest, none, ◌then◌, count}
 use Rattle.forest.specs.Forest.{count_tree}
-use Rattle.forest.specs.declared.Found.{Found}
-use Rattle.forest.specs.declared.Found.TheVariants.{At, Nothing}
 use Rattle.forest.proofs.Stretch.{forest_none, forest_tree, forest_induction, count_forest, length_kids}
 use Rattle.forest.proofs.Stretch.{length_rest}
 use Rattle.soundness.specs.Sound.{first_false}
@@ -28,9 +27,9 @@ use Rattle.table.specs.Depth.{most_depth, weight, or_else, first_deep, depths, d
 use Rattle.table.proofs.Deep.{weight_little, deep_inside}
 
 -- the first of some depths that is too large, counted from i on
-unfoldable pub first_over : ℕ → List ℕ → Found
-first_over i [] = Nothing
-first_over i (d ∷ ds) = if' (ltb most_depth d) (λ _. At i) (λ _. first_over (i + 1) ds)
+unfoldable pub first_over : ℕ → List ℕ → Option ℕ
+first_over i [] = None
+first_over i (d ∷ ds) = if' (ltb most_depth d) (λ _. Some i) (λ _. first_over (i + 1) ds)
 
 over_append : (i : ℕ) (ds es : List ℕ)
     → first_over i (ds ++ es) ≡ or_else (first_over i ds) (λ _. first_over (i + length ds) es)
@@ -40,8 +39,8 @@ over_append i (d ∷ ds) es = go (ltb most_depth d) (over_append (i + 1) ds es)
   where
     go : (b : Bool)
         → first_over (i + 1) (ds ++ es) ≡ or_else (first_over (i + 1) ds) (λ _. first_over (i + 1 + length ds) es)
-        → if' b (λ _. At i) (λ _. first_over (i + 1) (ds ++ es))
-        ≡ or_else (if' b (λ _. At i) (λ _. first_over (i + 1) ds)) (λ _. first_over (i + suc (length ds)) es)
+        → if' b (λ _. Some i) (λ _. first_over (i + 1) (ds ++ es))
+        ≡ or_else (if' b (λ _. Some i) (λ _. first_over (i + 1) ds)) (λ _. first_over (i + suc (length ds)) es)
     go true rest = refl
     go false rest = let on : i + 1 + length ds ≡ i + suc (length ds) = omega arith in rest ∙ rw on refl
 
@@ -76,7 +75,7 @@ deep_is_over =
       rs d,
     ) refl)
 
-swapped : (b : Bool) (x y : Unit {0} → Found) → if' b x y ≡ if' (not b) y x
+swapped : (b : Bool) (x y : Unit {0} → Option ℕ) → if' b x y ≡ if' (not b) y x
 swapped true x y = refl
 swapped false x y = refl
 
@@ -92,19 +91,19 @@ over_fails p i (d ∷ ds) h =
     rw (here, ← (over_fails p (i + 1) ds later)) (swapped (ltb most_depth d) _ _)
 
 -- LAW: where none is found, no node is too deep
-over_none : (i : ℕ) (ds : List ℕ) → first_over i ds ≡ Nothing → (j : ℕ) → get_or ds j 0 ≤ most_depth
+over_none : (i : ℕ) (ds : List ℕ) → first_over i ds ≡ None → (j : ℕ) → get_or ds j 0 ≤ most_depth
 unfolding first_over
 over_none i [] e j = omega arith
 over_none i (d ∷ ds) e j = go (ltb most_depth d) refl e j (over_none (i + 1) ds)
   where
-    go : (b : Bool) → ltb most_depth d ≡ b → if' b (λ _. At i) (λ _. first_over (i + 1) ds) ≡ Nothing → (j : ℕ)
-        → (first_over (i + 1) ds ≡ Nothing → (j : ℕ) → get_or ds j 0 ≤ most_depth) → get_or (d ∷ ds) j 0 ≤ most_depth
+    go : (b : Bool) → ltb most_depth d ≡ b → if' b (λ _. Some i) (λ _. first_over (i + 1) ds) ≡ None → (j : ℕ)
+        → (first_over (i + 1) ds ≡ None → (j : ℕ) → get_or ds j 0 ≤ most_depth) → get_or (d ∷ ds) j 0 ≤ most_depth
     go true t e j rest = never (cc)
     go false t e zero rest = ltb-false most_depth d t
     go false t e (suc j) rest = rest e j
 
 -- LAW: the node that is found is the first that is deeper than the largest depth; where none is found, none is
-pub deep_first : (t : List ℕ) (k : ℕ) → first_deep 0 (forest 0 t) ≡ At k → FirstDeeper (forest 0 t) k
+pub deep_first : (t : List ℕ) (k : ℕ) → first_deep 0 (forest 0 t) ≡ Some k → FirstDeeper (forest 0 t) k
 deep_first t k e =
     let ds : List ℕ = depths 0 (forest 0 t) in
     let fits : ℕ → Bool = λ j. not (ltb most_depth (get_or ds j 0)) in
@@ -116,7 +115,7 @@ deep_first t k e =
       before = λ j h. ltb-false most_depth _ (not-true _ (first.before j (omega arith) h));
     }
 
-pub deep_nowhere : (t : List ℕ) → first_deep 0 (forest 0 t) ≡ Nothing → (j : ℕ)
+pub deep_nowhere : (t : List ℕ) → first_deep 0 (forest 0 t) ≡ None → (j : ℕ)
     → get_or (depths 0 (forest 0 t)) j 0 ≤ most_depth
 deep_nowhere t e j = over_none 0 (depths 0 (forest 0 t)) (sym (deep_is_over 0 t 0) ∙ e) j
 
@@ -171,7 +170,7 @@ counts_behind i bs k big behind inside =
 
 -- what is shown of a stretch: the first node that is too deep counts
 abbrev FirstCounts : ℕ → List ℕ → Type 0
-FirstCounts i bs = (d k : ℕ) → d ≤ most_depth → first_deep d (forest i bs) ≡ At k → Counts i bs k
+FirstCounts i bs = (d k : ℕ) → d ≤ most_depth → first_deep d (forest i bs) ≡ Some k → Counts i bs k
 
 -- it is the first node, one below it, or one behind its subtree
 first_counts : (i : ℕ) (bs : List ℕ) → 24 ≤ length bs → FirstCounts (i + 1) (kids_of bs)
@@ -184,16 +183,17 @@ first_counts i bs big ks rs d k low f =
     own : ℕ
     own = d + weight (node_of i bs).kind
 
-    go : (b : Bool) → ltb most_depth own ≡ b → (x : Found) → first_deep own (forest (i + 1) (kids_of bs)) ≡ x
-        → or_else (if' b (λ _. At i) (λ _. x)) (λ _. first_deep d (forest (i + span_of bs / 24) (rest_of bs))) ≡ At k
+    go : (b : Bool) → ltb most_depth own ≡ b → (x : Option ℕ) → first_deep own (forest (i + 1) (kids_of bs)) ≡ x
+        → or_else (if' b (λ _. Some i) (λ _. x)) (λ _. first_deep d (forest (i + span_of bs / 24) (rest_of bs)))
+        ≡ Some k
         → Counts i bs k
     go true b_is x x-is f = let here : i ≡ k = cc in counts_here i bs d k here low (ltb-true most_depth own b_is)
-    go false b_is (At j) x-is f =
+    go false b_is (Some j) x-is f =
         let same : j ≡ k = cc in
-        let found = x-is ∙ ap At same in
+        let found = x-is ∙ ap Some same in
         counts_below i bs k (ks own k (ltb-false most_depth own b_is) found)
         (deep_inside (i + 1) (kids_of bs) own k found)
-    go false b_is Nothing x-is f =
+    go false b_is None x-is f =
         counts_behind i bs k big (rs d k low f) (deep_inside (i + span_of bs / 24) (rest_of bs) d k f)
 
 -- LAW: the first node that is too deep counts, so it is no parameter and no argument
@@ -203,7 +203,7 @@ deep_counts_in = forest_induction FirstCounts
     (λ i bs s d k low f. never (cc (ap (first_deep d) (forest_none i bs s))))
     first_counts
 
-pub deep_counts : (t : List ℕ) (k : ℕ) → first_deep 0 (forest 0 t) ≡ At k
+pub deep_counts : (t : List ℕ) (k : ℕ) → first_deep 0 (forest 0 t) ≡ Some k
     → weight (node_of k (drop (24 * k) t)).kind ≡ 1
 deep_counts t k e =
     let place : 24 * (k - 0) ≡ 24 * k = omega arith in rw place at (deep_counts_in 0 t 0 k (omega arith) e).counts

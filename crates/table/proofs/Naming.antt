@@ -3,22 +3,19 @@
 -- (`search_on`). Code reads one record of 24 bytes for that, and the record's index plays no part (`name_anywhere`). So
 -- the same entry is found wherever the stretch begins, its index counted from there (`first_shifted`), and what is
 -- found lies within the stretch (`first_within`); both are by `forest_induction`, on the siblings. Assumes nothing.
+use Rattle.std.specs.Prelude.{None, Option, Some, ℕ}
 use mathlib.Core.Path.{◌≡◌, refl, sym, ap, ◌∙◌}
-use mathlib.Core.Bool.{Bool, true, false, ◌&&◌}
+use mathlib.Core.Bool.{Bool, true, false}
 use mathlib.Core.List.{List, ◌∷◌}
-use Prim.Native.Nat.{ℕ, zero, suc, ◌+◌, ◌-◌, ◌*◌, ◌/◌, ◌<◌, ◌≤◌, ◌^◌}
+use Prim.Native.Nat.{ℕ, zero, suc, ◌+◌, ◌-◌, ◌*◌, ◌/◌, ◌<◌, ◌≤◌}
 use native.Mathlib.Nat.{add_assoc}
 use native.Mathlib.Omega.{arith}
 use lib.ListN.{length, take, drop, length-take, length-drop}
 use lib.Seq.{take-nil}
-use lib.Dec.{ltb, leb}
-use borrow.Author.Tests.{ltb-true, ltb-false, leb-true, leb-false}
 use Rattle.fields.specs.Choice.{if'}
-use Rattle.fields.proofs.Basics.{and_left, and_right, never}
+use Rattle.fields.proofs.Basics.{never}
 use Rattle.forest.specs.Forest.{node_of, span_of, rest_of, forest, roots}
 use Rattle.forest.specs.Names.{name_of, same}
-use Rattle.forest.specs.declared.Found.{Found}
-use Rattle.forest.specs.declared.Found.TheVariants.{At, Nothing}
 use Rattle.forest.proofs.Stretch.{node_take, rest_part, length_rest, forest_induction, roots_none, roots_on}
 use Rattle.table.specs.Naming.{bears_name, has_name, first_named, counted_from}
 use Rattle.table.specs.declared.Entries.{Entries}
@@ -54,29 +51,15 @@ search_start e ns x t n =
     record { upto = omega arith; room = omega arith; same = rw all refl }
 
 module _ {e : Entries} {ns x t : List ℕ} {n : ℕ} {left : List ℕ} {at i : ℕ} (s : Searching e ns x t n left at i) where
-  pub search_end : (ltb i n && leb 24 (length left)) ≡ false
-      → Nothing ≡ first_named e ns x (take n (roots (forest 0 t)))
+  pub search_end : n ≤ i → None ≡ first_named e ns x (take n (roots (forest 0 t)))
   unfolding first_named
-  search_end h = go (ltb i n) refl h ∙ s.same
-    where
-      go : (b : Bool) → ltb i n ≡ b → (b && leb 24 (length left)) ≡ false
-          → Nothing ≡ first_named e ns x (take (n - i) (roots (forest at left)))
-      go true more short = rw (roots_none at left (leb-false 24 (length left) short), take-nil (n - i)) refl
-      go false all short = let k : n - i ≡ 0 = omega (arith, ltb-false i n all) in rw k refl
+  search_end h = let k : n - i ≡ 0 = omega (arith, s.upto) in sym (sym s.same ∙ rw k refl)
 
-  module _ (more : (ltb i n && leb 24 (length left)) ≡ true) where
-    pub search_long : 24 ≤ length left
-    search_long = leb-true 24 (length left) (and_right (ltb i n) _ more)
+  pub search_short : length left < 24 → None ≡ first_named e ns x (take n (roots (forest 0 t)))
+  unfolding first_named
+  search_short h = sym (sym s.same ∙ rw (roots_none at left h, take-nil (n - i)) refl)
 
-    search_more : i < n
-    search_more = ltb-true i n (and_left _ _ more)
-
-    pub search_next : n < 2 ^ 64 → i + 1 < 2 ^ 64
-    search_next small = omega (arith, search_more)
-
-    pub search_less : n - (i + 1) < n - i
-    search_less = omega (arith, search_more)
-
+  module _ (search_more : i < n) (search_long : 24 ≤ length left) where
     search_one : {z : ℕ} → z ≡ span_of left → first_named e ns x (take (n - i) (roots (forest at left)))
         ≡ first_named e ns x (node_of at left
         ∷ take (n - (i + 1)) (roots (forest (at + z / 24) (take (length left - z) (drop z left)))))
@@ -90,7 +73,7 @@ module _ {e : Entries} {ns x t : List ℕ} {n : ℕ} {left : List ℕ} {at i : �
       here = name_anywhere e ns x at 0 left
           ∙ ap (has_name e ns x) (sym (node_take 0 24 left (omega arith))) ∙ sym b_is
 
-      pub search_here : b ≡ true → At at ≡ first_named e ns x (take n (roots (forest 0 t)))
+      pub search_here : b ≡ true → Some at ≡ first_named e ns x (take n (roots (forest 0 t)))
       unfolding first_named
       search_here hit = sym (sym s.same ∙ search_one refl ∙ rw (here, hit) refl)
 
@@ -110,8 +93,8 @@ module _ (e : Entries) (ns x : List ℕ) (first : ℕ) where
       ≡ counted_from first (first_named e ns x (take n (roots (forest k t))))
 
   -- the entry that is next has the name, or the rest decides
-  entry_shifted : (b : Bool) (k : ℕ) (f g : Found) → f ≡ counted_from first g
-      → if' b (λ _. At (first + k)) (λ _. f) ≡ counted_from first (if' b (λ _. At k) (λ _. g))
+  entry_shifted : (b : Bool) (k : ℕ) (f g : Option ℕ) → f ≡ counted_from first g
+      → if' b (λ _. Some (first + k)) (λ _. f) ≡ counted_from first (if' b (λ _. Some k) (λ _. g))
   entry_shifted true k f g rest = refl
   entry_shifted false k f g rest = rest
 
@@ -138,28 +121,28 @@ module _ (e : Entries) (ns x : List ℕ) (first : ℕ) where
 
 -- LAW: what is found is within the stretch
 pub first_within : (e : Entries) (ns x : List ℕ) (k : ℕ) (t : List ℕ) (n i : ℕ)
-    → first_named e ns x (take n (roots (forest k t))) ≡ At i → 24 * i + 24 ≤ 24 * k + length t
+    → first_named e ns x (take n (roots (forest k t))) ≡ Some i → 24 * i + 24 ≤ 24 * k + length t
 unfolding first_named
 first_within e ns x =
     forest_induction
-    (λ k t. (n i : ℕ) → first_named e ns x (take n (roots (forest k t))) ≡ At i → 24 * i + 24 ≤ 24 * k + length t)
+    (λ k t. (n i : ℕ) → first_named e ns x (take n (roots (forest k t))) ≡ Some i → 24 * i + 24 ≤ 24 * k + length t)
     (λ k t s n i h. absurd (none k t s n i h))
     (λ k t big ks rs n i h. go k t big rs n i h)
   where
     none : (k : ℕ) (t : List ℕ) → length t < 24 → (n i : ℕ)
-        → first_named e ns x (take n (roots (forest k t))) ≡ At i → ⊥
+        → first_named e ns x (take n (roots (forest k t))) ≡ Some i → ⊥
     none k t s n i h = let nothing = rw (roots_none k t s, take-nil n) at h in never (cc)
 
     go : (k : ℕ) (t : List ℕ) → 24 ≤ length t
-        → ((n i : ℕ) → first_named e ns x (take n (roots (forest (k + span_of t / 24) (rest_of t)))) ≡ At i
+        → ((n i : ℕ) → first_named e ns x (take n (roots (forest (k + span_of t / 24) (rest_of t)))) ≡ Some i
         → 24 * i + 24 ≤ 24 * (k + span_of t / 24) + length (rest_of t))
-        → (n i : ℕ) → first_named e ns x (take n (roots (forest k t))) ≡ At i → 24 * i + 24 ≤ 24 * k + length t
+        → (n i : ℕ) → first_named e ns x (take n (roots (forest k t))) ≡ Some i → 24 * i + 24 ≤ 24 * k + length t
     go k t big rs zero i h = never (cc)
     go k t big rs (suc n) i h =
         step (has_name e ns x (node_of k t)) (rw (roots_on k t big refl, rest_part (span_of t) t refl) at h)
       where
-        step : (b : Bool) → if' b (λ _. At k)
-            (λ _. first_named e ns x (take n (roots (forest (k + span_of t / 24) (rest_of t))))) ≡ At i
+        step : (b : Bool) → if' b (λ _. Some k)
+            (λ _. first_named e ns x (take n (roots (forest (k + span_of t / 24) (rest_of t))))) ≡ Some i
             → 24 * i + 24 ≤ 24 * k + length t
         step true h = let same : k ≡ i = cc in omega arith
         step false h = omega (arith, rs n i h, length_rest t)

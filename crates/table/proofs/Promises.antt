@@ -1,15 +1,16 @@
 -- Two answers of a public function that meet its promise are equal. A promise is an equation of the answer (fields'
 -- `coincide`), or of what the answer means; then no two answers mean the same (Answers' `refusal_injective` and the
 -- others, by `coincide_by`). Assumes nothing.
+use Rattle.std.specs.Prelude.{Option, Result, ℕ}
+use Rattle.dialect.specs.declared.Edition.{Edition}
+use Rattle.dialect.specs.declared.Dialect.{Dialect}
 use mathlib.Core.Path.{◌≡◌}
 use mathlib.Core.Bool.{Bool}
 use mathlib.Core.List.{List, ◌∷◌, ◌++◌}
 use Prim.Native.Nat.{ℕ}
 use Rattle.fields.proofs.Coincide.{coincide, coincide_by}
 use lib.ListN.{take}
-use Rattle.dialect.specs.declared.EditionRead.{EditionRead}
 use Rattle.forest.specs.Forest.{node_of, forest, roots}
-use Rattle.forest.specs.declared.Found.{Found}
 use Rattle.soundness.specs.Kinds.{class_of}
 use Rattle.table.specs.Answer.{refused, refused_at, number_of, refusal, checked, span_at, node_in, extent_in}
 use Rattle.table.specs.Answer.{span_values, earlier_in, earlier_values}
@@ -19,18 +20,13 @@ use Rattle.table.specs.declared.Entries.{Entries}
 use Rattle.table.specs.Check.{check_of, given, given_of, node_fits, stretch_of, entry_check}
 use Rattle.table.specs.Check.{most_bytes, is_headed, ruled, rules_of}
 use Rattle.table.specs.declared.Span.{Span}
-use Rattle.table.specs.declared.Given.{Given}
 use Rattle.table.specs.declared.Refusal.{Refusal}
-use Rattle.table.specs.declared.Ruled.{Ruled}
-use Rattle.table.specs.declared.Place.{Place}
-use Rattle.table.specs.declared.Extent.{Extent}
-use Rattle.table.specs.declared.Checked.{Checked}
 use Rattle.table.specs.declared.Wanted.{Wanted}
 use Rattle.table.proofs.Answers.{refusal_injective, checked_injective, given_injective}
 use Rattle.table.proofs.Ruling.{ruled_injective}
 
 -- of `check`
-pub check_one : (table names : List ℕ) {r s : Checked} → checked r ≡ check_of table names
+pub check_one : (table names : List ℕ) {r s : Result (Unit {0}) Refusal} → checked r ≡ check_of table names
     → checked s ≡ check_of table names → r ≡ s
 check_one table names = coincide_by checked checked_injective
 
@@ -49,7 +45,7 @@ pub node_fits_one : (table : List ℕ) (node : ℕ) (wanted : Wanted) {r s : Boo
 node_fits_one table node wanted = coincide
 
 -- of `deep_under_root`
-pub deep_under_root_one : (t : List ℕ) {r s : Found} → r ≡ first_deep 1 (forest 0 t) → s ≡ first_deep 1 (forest 0 t)
+pub deep_under_root_one : (t : List ℕ) {r s : Option ℕ} → r ≡ first_deep 1 (forest 0 t) → s ≡ first_deep 1 (forest 0 t)
     → r ≡ s
 deep_under_root_one t = coincide
 
@@ -71,15 +67,15 @@ pub number_one : (why : Refusal) {r s : ℕ} → r ≡ number_of why → s ≡ n
 number_one why = coincide
 
 -- of `node_of`
-pub node_of_one : (why : Refusal) {r s : Place} → r ≡ node_in why → s ≡ node_in why → r ≡ s
+pub node_of_one : (why : Refusal) {r s : Option ℕ} → r ≡ node_in why → s ≡ node_in why → r ≡ s
 node_of_one why = coincide
 
 -- of `extent_of`
-pub extent_of_one : (why : Refusal) {r s : Extent} → r ≡ extent_in why → s ≡ extent_in why → r ≡ s
+pub extent_of_one : (why : Refusal) {r s : Option Span} → r ≡ extent_in why → s ≡ extent_in why → r ≡ s
 extent_of_one why = coincide
 
 -- of `earlier_of`
-pub earlier_of_one : (why : Refusal) {r s : Place} → r ≡ earlier_in why → s ≡ earlier_in why → r ≡ s
+pub earlier_of_one : (why : Refusal) {r s : Option ℕ} → r ≡ earlier_in why → s ≡ earlier_in why → r ≡ s
 earlier_of_one why = coincide
 
 -- of `named::bears_name`
@@ -88,7 +84,7 @@ pub bears_name_one : (entries : Entries) (kind : ℕ) {r s : Bool} → r ≡ bea
 bears_name_one entries kind = coincide
 
 -- of `named::first_named`
-pub first_named_one : (entries : Entries) (names name t : List ℕ) (n : ℕ) {r s : Found}
+pub first_named_one : (entries : Entries) (names name t : List ℕ) (n : ℕ) {r s : Option ℕ}
     → r ≡ first_named entries names name (take n (roots (forest 0 t)))
     → s ≡ first_named entries names name (take n (roots (forest 0 t))) → r ≡ s
 first_named_one entries names name t n = coincide
@@ -98,22 +94,23 @@ pub span_of_one : (t : List ℕ) {r s : Span} → r ≡ span_at (node_of 0 t) �
 span_of_one t = coincide
 
 -- of `refused_in`
-pub refused_in_one : (number node : ℕ) (span : Span) (earlier : Place) {r s : Refusal}
+pub refused_in_one : (number node : ℕ) (span : Span) (earlier : Option ℕ) {r s : Refusal}
     → refusal r ≡ refused number (node ∷ span_values span ++ earlier_values earlier)
     → refusal s ≡ refused number (node ∷ span_values span ++ earlier_values earlier) → r ≡ s
 refused_in_one number node span earlier = coincide_by refusal refusal_injective
 
 -- of `enter`
-pub enter_one : (table names : List ℕ) (node : ℕ) (wanted : Wanted) {r s : Checked}
+pub enter_one : (table names : List ℕ) (node : ℕ) (wanted : Wanted) {r s : Result (Unit {0}) Refusal}
     → checked r ≡ entry_check wanted table names node → checked s ≡ entry_check wanted table names node → r ≡ s
 enter_one table names node wanted = coincide_by checked checked_injective
 
 -- of `enter_dialect`
-pub enter_dialect_one : (table names bytes : List ℕ) {r s : Given} → given r ≡ given_of table names bytes
+pub enter_dialect_one : (table names bytes : List ℕ) {r s : Result Dialect Refusal}
+    → given r ≡ given_of table names bytes
     → given s ≡ given_of table names bytes → r ≡ s
 enter_dialect_one table names bytes = coincide_by given given_injective
 
 -- of `enter_rules`
-pub enter_rules_one : (table names bytes : List ℕ) (read : EditionRead) {r s : Ruled}
+pub enter_rules_one : (table names bytes : List ℕ) (read : Option Edition) {r s : Result (Dialect × Edition) Refusal}
     → ruled r ≡ rules_of table names bytes read → ruled s ≡ rules_of table names bytes read → r ≡ s
 enter_rules_one table names bytes read = coincide_by ruled ruled_injective

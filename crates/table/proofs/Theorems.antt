@@ -3,6 +3,7 @@
 -- largest depth (`accepted_sound`, `accepted_flat`). A refusal with a node comes from one of the two searches
 -- (`of_searches`, by cases on the four steps): 3 carries the first unsound record (`unsound_first`), 4 the first node
 -- that is too deep (`deep_is_first`), which is a statement or an expression (`deep_is_counted`). Assumes nothing.
+use Rattle.std.specs.Prelude.{None, Option, Some, ℕ}
 use mathlib.Core.Path.{◌≡◌, refl}
 use mathlib.Core.Bool.{Bool, true, false}
 use mathlib.Core.List.{List, [], ◌∷◌}
@@ -15,8 +16,6 @@ use borrow.Author.Tests.{le-leb, eq-eqb}
 use Rattle.fields.proofs.Basics.{never}
 use Rattle.fields.specs.Choice.{if'}
 use Rattle.forest.specs.Forest.{node_of, forest}
-use Rattle.forest.specs.declared.Found.{Found}
-use Rattle.forest.specs.declared.Found.TheVariants.{At, Nothing}
 use Rattle.soundness.specs.Kinds.{statement, expression, class_of}
 use Rattle.soundness.specs.Sound.{record_sound, first_unsound}
 use Rattle.soundness.proofs.Search.{First, found, none_found_lem}
@@ -54,20 +53,20 @@ module _ (t names : List ℕ) where
 
   -- a refusal with a node is of one of the two searches, which found the node
   of_searches : {m k : ℕ} → check_of t names ≡ refused m (k ∷ [])
-      → ((m ≡ unsound_record) × (first_unsound t names ≡ At k))
-      ⊎ ((m ≡ too_deep) × (first_unsound t names ≡ Nothing) × (first_deep 0 (forest 0 t) ≡ At k))
+      → ((m ≡ unsound_record) × (first_unsound t names ≡ Some k))
+      ⊎ ((m ≡ too_deep) × (first_unsound t names ≡ None) × (first_deep 0 (forest 0 t) ≡ Some k))
   unfolding check_of
   of_searches {m} {k} = go (length_sound (length t)) (leb (length names) 8064) (first_unsound t names)
       (first_deep 0 (forest 0 t))
     where
-      go : (l n : Bool) (u d : Found)
+      go : (l n : Bool) (u d : Option ℕ)
           → and_then (if' l (λ _. accepted []) (λ _. refused table_length []))
           (λ _. and_then (if' n (λ _. accepted []) (λ _. refused name_bytes []))
           (λ _. and_then (none_found unsound_record u) (λ _. none_found too_deep d))) ≡ refused m (k ∷ [])
-          → ((m ≡ unsound_record) × (u ≡ At k)) ⊎ ((m ≡ too_deep) × (u ≡ Nothing) × (d ≡ At k))
-      go true true (At i) d e = inl (cc, cc)
-      go true true Nothing (At i) e = inr (cc, refl, cc)
-      go true true Nothing Nothing e = never (cc)
+          → ((m ≡ unsound_record) × (u ≡ Some k)) ⊎ ((m ≡ too_deep) × (u ≡ None) × (d ≡ Some k))
+      go true true (Some i) d e = inl (cc, cc)
+      go true true None (Some i) e = inr (cc, refl, cc)
+      go true true None None e = never (cc)
       go true false u d e = never (cc)
       go false n u d e = never (cc)
 
@@ -81,7 +80,7 @@ module _ (t names : List ℕ) where
 
   -- THEOREM: 4 carries the first node that is deeper than the largest depth, in a table with no unsound record
   pub deep_is_first : (k : ℕ) → check_of t names ≡ refused too_deep (k ∷ [])
-      → (first_unsound t names ≡ Nothing) × FirstDeeper (forest 0 t) k
+      → (first_unsound t names ≡ None) × FirstDeeper (forest 0 t) k
   deep_is_first k e = ⊎_elim (λ h. absurd (omega (arith, h.0))) (λ h. (h.1, deep_first t k h.2)) (of_searches e)
 
   -- THEOREM: that node is a statement or an expression, so no parameter and no argument

@@ -1,15 +1,9 @@
 -- What an answer means: a number of docs/RULES.md and its values. These are definitions.
-use Rattle.std.specs.Prelude.{◌≡◌, Bool, true, false, List, [], ◌∷◌, ◌++◌, ℕ, ◌≤◌, length}
+use Rattle.std.specs.Prelude.{◌≡◌, Bool, true, false, List, [], ◌∷◌, ◌++◌, ℕ, ◌≤◌, length, Err, None, Ok, Option, Result, Some}
 use Rattle.forest.specs.Forest.{Node}
 use Rattle.table.specs.declared.Refusal.{Refusal}
 use Rattle.table.specs.declared.Refusal.TheVariants.{Bare, Placed, Spanned}
 use Rattle.table.specs.declared.Span.{Span}
-use Rattle.table.specs.declared.Place.{Place}
-use Rattle.table.specs.declared.Place.TheVariants.{At as AtPlace, Nothing as NoPlace}
-use Rattle.table.specs.declared.Extent.{Extent}
-use Rattle.table.specs.declared.Extent.TheVariants.{Of, Nothing as NoSpan}
-use Rattle.table.specs.declared.Checked.{Checked}
-use Rattle.table.specs.declared.Checked.TheVariants.{Sound, Refused}
 
 -- accepted, with the values of the job; or refused, with a number and what it carries: nothing, the node, the node and
 -- its span with the source file number, or these and an earlier node
@@ -55,25 +49,25 @@ number_of (Placed n k) = n
 number_of (Spanned n k s e) = n
 
 -- the node that it carries, and the span
-abbrev pub node_in : Refusal → Place
-node_in (Bare n) = NoPlace
-node_in (Placed n k) = AtPlace k
-node_in (Spanned n k s e) = AtPlace k
+abbrev pub node_in : Refusal → Option ℕ
+node_in (Bare n) = None
+node_in (Placed n k) = Some k
+node_in (Spanned n k s e) = Some k
 
-abbrev pub extent_in : Refusal → Extent
-extent_in (Bare n) = NoSpan
-extent_in (Placed n k) = NoSpan
-extent_in (Spanned n k s e) = Of s
+abbrev pub extent_in : Refusal → Option Span
+extent_in (Bare n) = None
+extent_in (Placed n k) = None
+extent_in (Spanned n k s e) = Some s
 
 -- the earlier node that it carries
-abbrev pub earlier_in : Refusal → Place
-earlier_in (Bare n) = NoPlace
-earlier_in (Placed n k) = NoPlace
+abbrev pub earlier_in : Refusal → Option ℕ
+earlier_in (Bare n) = None
+earlier_in (Placed n k) = None
 earlier_in (Spanned n k s e) = e
 
-abbrev pub earlier_values : Place → List ℕ
-earlier_values (AtPlace i) = i ∷ []
-earlier_values NoPlace = []
+abbrev pub earlier_values : Option ℕ → List ℕ
+earlier_values (Some i) = i ∷ []
+earlier_values None = []
 
 -- all of that in numbers
 abbrev pub carried : Refusal → List ℕ
@@ -90,6 +84,6 @@ OnlyCarries m (refused n vs) = (n ≡ m → length vs ≡ 5) × ((n ≡ m → �
 abbrev pub refusal : Refusal → Answer
 refusal r = refused (number_of r) (carried r)
 
-abbrev pub checked : Checked → Answer
-checked Sound = accepted []
-checked (Refused r) = refusal r
+abbrev pub checked : Result (Unit {0}) Refusal → Answer
+checked (Ok _) = accepted []
+checked (Err r) = refusal r

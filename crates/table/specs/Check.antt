@@ -1,27 +1,18 @@
 -- The table check, 1 to 4 in this order, a job's dialect and its edition, 5, and a job's node, 6. These are
 -- definitions.
-use Rattle.std.specs.Prelude.{Bool, ◌&&◌, ◌||◌, List, [], ◌∷◌, ℕ, ◌+◌, ◌*◌, ◌/◌, ◌%◌, ◌≤◌, length, take, drop, eqb, ltb, leb}
+use Rattle.std.specs.Prelude.{Bool, ◌&&◌, ◌||◌, List, [], ◌∷◌, ℕ, ◌+◌, ◌*◌, ◌/◌, ◌%◌, ◌≤◌, length, take, drop, eqb, ltb, leb, Err, None, Ok, Option, Result, Some}
+use Rattle.table.specs.declared.Refusal.{Refusal}
 use Rattle.fields.specs.Choice.{if'}
 use Rattle.dialect.specs.Bytes.{from_bytes}
 use Rattle.dialect.specs.declared.Dialect.{Dialect}
-use Rattle.dialect.specs.declared.Decoded.{Decoded}
-use Rattle.dialect.specs.declared.Decoded.TheVariants.{Valid, Invalid}
 use Rattle.dialect.specs.declared.Edition.{Edition}
-use Rattle.dialect.specs.declared.EditionRead.{EditionRead}
-use Rattle.dialect.specs.declared.EditionRead.TheVariants.{Known, Unknown}
 use Rattle.forest.specs.Forest.{record_bytes, size_of, node_of, Tree, tree_of, forest}
-use Rattle.forest.specs.declared.Found.{Found}
-use Rattle.forest.specs.declared.Found.TheVariants.{At, Nothing}
 use Rattle.table.specs.Numbers.{table_length, name_bytes, unsound_record, too_deep, bad_dialect, wrong_node}
 use Rattle.soundness.specs.KindNumbers.{kind_def, kind_lambda, kind_call, kind_assign, kind_assign_modify}
 use Rattle.soundness.specs.Kinds.{expression, class_of}
 use Rattle.soundness.specs.Sound.{first_unsound}
 use Rattle.table.specs.Depth.{first_deep}
 use Rattle.table.specs.Answer.{Answer, accepted, refused, and_then, number_of, carried}
-use Rattle.table.specs.declared.Given.{Given}
-use Rattle.table.specs.declared.Given.TheVariants.{In, Refused}
-use Rattle.table.specs.declared.Ruled.{Ruled}
-use Rattle.table.specs.declared.Ruled.TheVariants.{By, Refused as Unruled}
 use Rattle.table.specs.declared.Wanted.{Wanted}
 use Rattle.table.specs.declared.Wanted.TheVariants.{Parameters, Call, Assignment, Expression}
 
@@ -61,15 +52,15 @@ abbrev pub names_check : ℕ → Answer
 names_check n = if' (leb n most_names) (λ _. accepted []) (λ _. refused name_bytes [])
 
 -- a node that breaks a rule, by the rule's number
-abbrev pub none_found : ℕ → Found → Answer
-none_found n (At i) = refused n (i ∷ [])
-none_found n Nothing = accepted []
+abbrev pub none_found : ℕ → Option ℕ → Answer
+none_found n (Some i) = refused n (i ∷ [])
+none_found n None = accepted []
 
 -- 3 and 4: what the searches for an unsound record and for a node that is too deep answer
-abbrev pub unsound_check : Found → Answer
+abbrev pub unsound_check : Option ℕ → Answer
 unsound_check f = none_found unsound_record f
 
-abbrev pub deep_check : Found → Answer
+abbrev pub deep_check : Option ℕ → Answer
 deep_check f = none_found too_deep f
 
 -- the check: 1, 2, 3 the first unsound record, 4 the first node that is too deep
@@ -85,17 +76,17 @@ pub data Handing : Type 0 where
   in_dialect : Dialect → Handing
   turned_away : ℕ → List ℕ → Handing
 
-abbrev pub given : Given → Handing
-given (In d) = in_dialect d
-given (Refused r) = turned_away (number_of r) (carried r)
+abbrev pub given : Result Dialect Refusal → Handing
+given (Ok d) = in_dialect d
+given (Err r) = turned_away (number_of r) (carried r)
 
 -- 5: the bytes give no dialect
-abbrev pub decoded : Decoded → Handing
-decoded (Valid d) = in_dialect d
-decoded Invalid = turned_away bad_dialect []
+abbrev pub decoded : Option Dialect → Handing
+decoded (Some d) = in_dialect d
+decoded None = turned_away bad_dialect []
 
 -- the same after 1 to 4
-abbrev pub handing : Answer → Decoded → Handing
+abbrev pub handing : Answer → Option Dialect → Handing
 handing (refused n vs) x = turned_away n vs
 handing (accepted vs) x = decoded x
 
@@ -116,17 +107,17 @@ pub data Ruling : Type 0 where
   by_rules : Dialect → Edition → Ruling
   unruled : ℕ → List ℕ → Ruling
 
-abbrev pub ruled : Ruled → Ruling
-ruled (By d e) = by_rules d e
-ruled (Unruled r) = unruled (number_of r) (carried r)
+abbrev pub ruled : Result (Dialect × Edition) Refusal → Ruling
+ruled (Ok p) = by_rules p.0 p.1
+ruled (Err r) = unruled (number_of r) (carried r)
 
 -- 5 again, after the dialect bytes: the number that was read is no edition
-abbrev pub ruling : Handing → EditionRead → Ruling
+abbrev pub ruling : Handing → Option Edition → Ruling
 ruling (turned_away n vs) x = unruled n vs
-ruling (in_dialect d) (Known e) = by_rules d e
-ruling (in_dialect d) Unknown = unruled bad_dialect []
+ruling (in_dialect d) (Some e) = by_rules d e
+ruling (in_dialect d) None = unruled bad_dialect []
 
-unfoldable pub rules_of : List ℕ → List ℕ → List ℕ → EditionRead → Ruling
+unfoldable pub rules_of : List ℕ → List ℕ → List ℕ → Option Edition → Ruling
 rules_of t names bytes edition = ruling (given_of t names bytes) edition
 
 -- a job that reads types: 1 to 5, then the answer of a rule in that dialect and edition
@@ -135,7 +126,7 @@ in_rules (by_rules d e) rule = rule d e
 in_rules (unruled n vs) rule = refused n vs
 
 -- 1 to 5 alone, the edition included
-abbrev pub rules_check : List ℕ → List ℕ → List ℕ → EditionRead → Answer
+abbrev pub rules_check : List ℕ → List ℕ → List ℕ → Option Edition → Answer
 rules_check t names bytes edition = in_rules (rules_of t names bytes edition) (λ _ _. accepted [])
 
 -- the kinds that a job accepts: parameters 2 or 27, a call 22, an assignment 11 or 12, a target or a type an expression

@@ -1,10 +1,8 @@
 -- Depth: the weights along the way from the root to a node, summed. These are definitions.
-use Rattle.std.specs.Prelude.{List, [], ◌∷◌, ◌++◌, ℕ, ◌+◌, ◌<◌, ◌≤◌, length, get_or, ltb, eqb}
+use Rattle.std.specs.Prelude.{List, [], ◌∷◌, ◌++◌, ℕ, ◌+◌, ◌<◌, ◌≤◌, length, get_or, ltb, eqb, None, Option, Some}
 use Rattle.fields.specs.Choice.{if'}
 use Rattle.soundness.specs.Kinds.{statement, expression, class_of}
 use Rattle.forest.specs.Forest.{Tree, node, Forest, none, ◌then◌}
-use Rattle.forest.specs.declared.Found.{Found}
-use Rattle.forest.specs.declared.Found.TheVariants.{At, Nothing}
 
 -- the largest depth
 abbrev pub most_depth : ℕ
@@ -23,19 +21,19 @@ unfoldable pub weight : ℕ → ℕ
 weight kind = class_weight (class_of kind)
 
 -- the first of two that is found
-abbrev pub or_else : Found → (Unit {0} → Found) → Found
-or_else (At i) next = At i
-or_else Nothing next = next tt
+abbrev pub or_else : Option ℕ → (Unit {0} → Option ℕ) → Option ℕ
+or_else (Some i) next = Some i
+or_else None next = next tt
 
 -- the first node, in table order, that is deeper than the largest depth; d is its parent's depth
 unfoldable mutual
-  pub first_deep : ℕ → Forest → Found
-  first_deep d none = Nothing
+  pub first_deep : ℕ → Forest → Option ℕ
+  first_deep d none = None
   first_deep d (t then ts) = or_else (deep_in d t) (λ _. first_deep d ts)
 
-  pub deep_in : ℕ → Tree → Found
+  pub deep_in : ℕ → Tree → Option ℕ
   deep_in d (node r ks) =
-      if' (ltb most_depth (d + weight r.kind)) (λ _. At r.at) (λ _. first_deep (d + weight r.kind) ks)
+      if' (ltb most_depth (d + weight r.kind)) (λ _. Some r.at) (λ _. first_deep (d + weight r.kind) ks)
 
 -- the depth of each node, in table order; d is the depth of their parent
 unfoldable mutual

@@ -1,11 +1,9 @@
 -- The entries of a list, parameters or arguments side by side: which of them have a name, and the first with a name.
 -- These are definitions.
-use Rattle.std.specs.Prelude.{Bool, not, ◌&&◌, ◌||◌, List, [], ◌∷◌, ℕ, ◌+◌, eqb}
+use Rattle.std.specs.Prelude.{Bool, not, ◌&&◌, ◌||◌, List, [], ◌∷◌, ℕ, ◌+◌, eqb, None, Option, Some}
 use Rattle.fields.specs.Choice.{if'}
 use Rattle.forest.specs.Forest.{Node}
 use Rattle.forest.specs.Names.{name_of, same}
-use Rattle.forest.specs.declared.Found.{Found}
-use Rattle.forest.specs.declared.Found.TheVariants.{At, Nothing}
 use Rattle.soundness.specs.KindNumbers.{kind_no_args, kind_slash, kind_named}
 use Rattle.table.specs.declared.Entries.{Entries}
 use Rattle.table.specs.declared.Entries.TheVariants.{Parameters, Arguments}
@@ -20,11 +18,11 @@ unfoldable pub has_name : Entries → List ℕ → List ℕ → Node → Bool
 has_name e names x r = bears_name e r.kind && same (name_of names r) x
 
 -- the first that has it, by its index
-unfoldable pub first_named : Entries → List ℕ → List ℕ → List Node → Found
-first_named e names x [] = Nothing
-first_named e names x (r ∷ rs) = if' (has_name e names x r) (λ _. At r.at) (λ _. first_named e names x rs)
+unfoldable pub first_named : Entries → List ℕ → List ℕ → List Node → Option ℕ
+first_named e names x [] = None
+first_named e names x (r ∷ rs) = if' (has_name e names x r) (λ _. Some r.at) (λ _. first_named e names x rs)
 
 -- an index within a stretch as an index of the table, where the stretch begins at `first`
-abbrev pub counted_from : ℕ → Found → Found
-counted_from first (At i) = At (first + i)
-counted_from first Nothing = Nothing
+abbrev pub counted_from : ℕ → Option ℕ → Option ℕ
+counted_from first (Some i) = Some (first + i)
+counted_from first None = None

@@ -3,7 +3,7 @@ ghost use Rattle.std.specs.Prelude.{◌≡◌, ◌+◌, ◌*◌, ◌≤◌, ◌<
 ghost use Rattle.forest.specs.Forest.{record_bytes, node_of, forest};
 ghost use Rattle.table.specs.Depth.{class_weight, weight, first_deep};
 
-use forest::{Found, RECORD};
+use forest::{Nodes, RECORD};
 use soundness::classes;
 
 // The largest depth.
@@ -31,34 +31,33 @@ fn weight_of(t: &[u8]) -> usize
 
 // The first node of a stretch that is too deep; its first record has the index `at`, and its parent the depth `depth`.
 // Children are visited by recursion, which the depth limit ends, and siblings in a loop.
-pub(crate) fn deep_from(t: &[u8], at: usize, depth: usize) -> Found
+pub(crate) fn deep_from(t: &[u8], at: usize, depth: usize) -> Option<usize>
     requires { (record_bytes * at + length t.now < 2 ^ 63) × (depth ≤ 64) }
     ensures { result ≡ first_deep depth (forest at t.now) }
 {
-    let mut left = t;
-    let mut i = at;
-    // fewer nodes cannot reach that depth, so most subtrees need no walk
-    while MOST_DEPTH < depth + left.len() / RECORD {
+    for (i, left) in (Nodes { at, left: t }) {
+        // fewer nodes cannot reach that depth, so most subtrees need no walk
+        if depth + left.len() / RECORD <= MOST_DEPTH {
+            return None;
+        }
         let here = depth + weight_of(left);
         if MOST_DEPTH < here {
-            return Found::At(i);
+            return Some(i);
         }
         let e = forest::span(left);
         // a call for each small subtree would cost more than this test
         if MOST_DEPTH < here + e / RECORD {
             let below = deep_from(&left[RECORD..e], i + 1, here);
-            if let Found::At(j) = below {
-                return Found::At(j);
+            if let Some(j) = below {
+                return Some(j);
             }
         }
-        left = &left[e..];
-        i += e / RECORD;
     }
-    Found::Nothing
+    None
 }
 
 // The first node of a table that is too deep.
-pub(crate) fn first_deep(table: &[u8]) -> Found
+pub(crate) fn first_deep(table: &[u8]) -> Option<usize>
     ensures { result ≡ first_deep 0 (forest 0 table.now) }
 {
     deep_from(table, 0, 0)

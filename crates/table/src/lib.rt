@@ -15,8 +15,8 @@ ghost use Rattle.table.specs.Answer.{span_values, earlier_in, earlier_values};
 ghost use Rattle.table.specs.Check.{length_sound, check_of, given, given_of, wants, node_fits, stretch_of, entry_check};
 ghost use Rattle.table.specs.Check.{most_bytes, is_headed, ruled, rules_of};
 
-use dialect::{Decoded, Dialect, Edition, EditionRead};
-use forest::{Found, RECORD};
+use dialect::{Dialect, Edition};
+use forest::RECORD;
 use soundness::{classes, kinds};
 
 // A part of a script: from `begin` to before `end`, in the source file of this number.
@@ -34,20 +34,6 @@ pub const MOST_BYTES: usize = RECORD * MOST_NODES;
 
 pub const MOST_NAMES: usize = 8064;
 
-// A place in a list, or a node of the table, counted from 0; or none.
-#[derive(Clone, Copy)]
-pub enum Place {
-    At(u32),
-    Nothing,
-}
-
-// A span, or none.
-#[derive(Clone, Copy)]
-pub enum Extent {
-    Of(Span),
-    Nothing,
-}
-
 // Why a job refuses: a number, and what it carries: nothing, the node, or the node with its span and, for a repeated
 // name, the earlier node.
 #[derive(Clone, Copy)]
@@ -61,29 +47,8 @@ pub enum Refusal {
         number: u32,
         node: u32,
         span: Span,
-        earlier: Place,
+        earlier: Option<u32>,
     },
-}
-
-// The answer of the table check.
-#[derive(Clone, Copy)]
-pub enum Checked {
-    Sound,
-    Refused(Refusal),
-}
-
-// What a job in a dialect gets: the dialect, or the refusal.
-#[derive(Clone, Copy)]
-pub enum Given {
-    In(Dialect),
-    Refused(Refusal),
-}
-
-// What a job that reads types gets: the dialect and the edition, or the refusal.
-#[derive(Clone, Copy)]
-pub enum Ruled {
-    By { dialect: Dialect, edition: Edition },
-    Refused(Refusal),
 }
 
 // The kinds of node that a job accepts.
@@ -110,34 +75,32 @@ fn length_sound(n: usize) -> bool
 }
 
 // The check of a table: 1, 2, 3 and 4 in this order.
-pub fn check(table: &[u8], names: &[u8]) -> Checked
+pub fn check(table: &[u8], names: &[u8]) -> Result<(), Refusal>
     ensures { checked result ≡ check_of table.now names.now }
 {
     if !length_sound(table.len()) {
-        return Checked::Refused(Refusal::Bare(numbers::TABLE_LENGTH));
+        return Err(Refusal::Bare(numbers::TABLE_LENGTH));
     }
     if MOST_NAMES < names.len() {
-        return Checked::Refused(Refusal::Bare(numbers::NAME_BYTES));
+        return Err(Refusal::Bare(numbers::NAME_BYTES));
     }
-    let unsound = soundness::first_unsound(table, names);
-    if let Found::At(i) = unsound {
-        return Checked::Refused(Refusal::Placed {
+    if let Some(i) = soundness::first_unsound(table, names) {
+        return Err(Refusal::Placed {
             number: numbers::UNSOUND_RECORD,
             node: i as u32,
         });
     }
-    let deep = depth::first_deep(table);
-    if let Found::At(i) = deep {
-        return Checked::Refused(Refusal::Placed {
+    if let Some(i) = depth::first_deep(table) {
+        return Err(Refusal::Placed {
             number: numbers::TOO_DEEP,
             node: i as u32,
         });
     }
-    Checked::Sound
+    Ok(())
 }
 
 // The first node that is too deep among children of the root: t is their stretch.
-pub fn deep_under_root(t: &[u8]) -> Found
+pub fn deep_under_root(t: &[u8]) -> Option<usize>
     ensures { result ≡ first_deep 1 (forest 0 t.now) }
 {
     depth::deep_from(t, 0, 1)
@@ -167,44 +130,44 @@ pub fn number(why: Refusal) -> u32
 }
 
 // The node that a refusal carries.
-pub fn node_of(why: Refusal) -> Place
+pub fn node_of(why: Refusal) -> Option<u32>
     ensures { result ≡ node_in why }
 {
     match why {
-        Refusal::Bare(number) => Place::Nothing,
-        Refusal::Placed { number, node } => Place::At(node),
+        Refusal::Bare(number) => None,
+        Refusal::Placed { number, node } => Some(node),
         Refusal::Spanned {
             number,
             node,
             span,
             earlier,
-        } => Place::At(node),
+        } => Some(node),
     }
 }
 
 // The span that a refusal carries.
-pub fn extent_of(why: Refusal) -> Extent
+pub fn extent_of(why: Refusal) -> Option<Span>
     ensures { result ≡ extent_in why }
 {
     match why {
-        Refusal::Bare(number) => Extent::Nothing,
-        Refusal::Placed { number, node } => Extent::Nothing,
+        Refusal::Bare(number) => None,
+        Refusal::Placed { number, node } => None,
         Refusal::Spanned {
             number,
             node,
             span,
             earlier,
-        } => Extent::Of(span),
+        } => Some(span),
     }
 }
 
 // The earlier node that a refusal carries.
-pub fn earlier_of(why: Refusal) -> Place
+pub fn earlier_of(why: Refusal) -> Option<u32>
     ensures { result ≡ earlier_in why }
 {
     match why {
-        Refusal::Bare(number) => Place::Nothing,
-        Refusal::Placed { number, node } => Place::Nothing,
+        Refusal::Bare(number) => None,
+        Refusal::Placed { number, node } => None,
         Refusal::Spanned {
             number,
             node,
@@ -226,7 +189,7 @@ pub fn span_of(t: &[u8]) -> Span
 }
 
 // A refusal at a node, with a span, and with an earlier node if there is one.
-pub fn refused_in(number: u32, node: u32, span: Span, earlier: Place) -> Refusal
+pub fn refused_in(number: u32, node: u32, span: Span, earlier: Option<u32>) -> Refusal
     ensures { refusal result ≡ refused number (node ∷ span_values span ++ earlier_values earlier) }
 {
     Refusal::Spanned {
@@ -241,7 +204,7 @@ pub fn refused_in(number: u32, node: u32, span: Span, earlier: Place) -> Refusal
 pub fn refused_at(number: u32, node: u32, t: &[u8]) -> Refusal
     ensures { refusal result ≡ refused_at number (node_of node t.now) }
 {
-    refused_in(number, node, span_of(t), Place::Nothing)
+    refused_in(number, node, span_of(t), None)
 }
 
 // Whether a job accepts a record of this kind.
@@ -305,47 +268,34 @@ pub fn is_headed(t: &[u8], node: u32) -> bool
 }
 
 // The checks with which a job on a node begins: 1 to 4, then 6. The node's subtree is then `stretch`.
-pub fn enter(table: &[u8], names: &[u8], node: usize, wanted: Wanted) -> Checked
+pub fn enter(table: &[u8], names: &[u8], node: usize, wanted: Wanted) -> Result<(), Refusal>
     ensures { checked result ≡ entry_check wanted table.now names.now node }
 {
-    let found = check(table, names);
-    if let Checked::Refused(why) = found {
-        return Checked::Refused(why);
-    }
+    check(table, names)?;
     if !node_fits(table, node, wanted) {
-        return Checked::Refused(Refusal::Bare(numbers::WRONG_NODE));
+        return Err(Refusal::Bare(numbers::WRONG_NODE));
     }
-    Checked::Sound
+    Ok(())
 }
 
 // The checks with which a job in a dialect begins: 1 to 4, then 5.
-pub fn enter_dialect(table: &[u8], names: &[u8], bytes: &[u8]) -> Given
+pub fn enter_dialect(table: &[u8], names: &[u8], bytes: &[u8]) -> Result<Dialect, Refusal>
     ensures { given result ≡ given_of table.now names.now bytes.now }
 {
-    let found = check(table, names);
-    if let Checked::Refused(why) = found {
-        return Given::Refused(why);
-    }
-    let read = dialect::from_bytes(bytes);
-    match read {
-        Decoded::Valid(d) => Given::In(d),
-        Decoded::Invalid => Given::Refused(Refusal::Bare(numbers::BAD_DIALECT)),
-    }
+    check(table, names)?;
+    dialect::from_bytes(bytes).ok_or(Refusal::Bare(numbers::BAD_DIALECT))
 }
 
 // The checks with which a job that reads types begins: 1 to 4, 5 for the dialect bytes, then 5 for the edition.
-pub fn enter_rules(table: &[u8], names: &[u8], bytes: &[u8], read: EditionRead) -> Ruled
+pub fn enter_rules(
+    table: &[u8],
+    names: &[u8],
+    bytes: &[u8],
+    read: Option<Edition>,
+) -> Result<(Dialect, Edition), Refusal>
     ensures { ruled result ≡ rules_of table.now names.now bytes.now read }
 {
-    let entered = enter_dialect(table, names, bytes);
-    match entered {
-        Given::In(d) => match read {
-            EditionRead::Known(e) => Ruled::By {
-                dialect: d,
-                edition: e,
-            },
-            EditionRead::Unknown => Ruled::Refused(Refusal::Bare(numbers::BAD_DIALECT)),
-        },
-        Given::Refused(why) => Ruled::Refused(why),
-    }
+    let d = enter_dialect(table, names, bytes)?;
+    let e = read.ok_or(Refusal::Bare(numbers::BAD_DIALECT))?;
+    Ok((d, e))
 }

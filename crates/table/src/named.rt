@@ -4,7 +4,7 @@ ghost use Rattle.forest.specs.Forest.{node_of, forest, roots};
 ghost use Rattle.table.specs.Naming.{bears_name, has_name, first_named};
 
 use crate::Entries;
-use forest::{Found, RECORD};
+use forest::RECORD;
 use soundness::kinds;
 
 // Whether an entry of a kind has a name: parameters other than `*` and `/`, and named arguments.
@@ -27,22 +27,24 @@ fn has_name(entries: Entries, names: &[u8], name: &[u8], t: &[u8]) -> bool
     forest::names::same_bytes(forest::names::name(names, t), name)
 }
 
-// The index in the stretch of the first of its first n entries that has this name.
-pub fn first_named(entries: Entries, names: &[u8], name: &[u8], t: &[u8], n: usize) -> Found
+// The index in the stretch of the first of its first n entries that has this name. Not a `for` with `take(n)`, which
+// has no i: the wrong answers last_entry_not_searched and place_for_the_index are about it.
+pub fn first_named(entries: Entries, names: &[u8], name: &[u8], t: &[u8], n: usize) -> Option<usize>
     ensures { result ≡ first_named entries names.now name.now
         (take n (roots (forest 0 t.now))) }
 {
     let mut left = t;
     let mut at = 0;
-    let mut i = 0;
-    while (i < n) & (RECORD <= left.len()) {
+    for i in 0..n {
+        if left.len() < RECORD {
+            return None;
+        }
         if has_name(entries, names, name, &left[0..RECORD]) {
-            return Found::At(at);
+            return Some(at);
         }
         let e = forest::span(left);
         at += e / RECORD;
         left = &left[e..];
-        i += 1;
     }
-    Found::Nothing
+    None
 }

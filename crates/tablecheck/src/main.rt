@@ -41,8 +41,7 @@ fn check(
     name: &str,
 ) -> io::Result<()> {
     let mut file = [0u8; ENOUGH_BYTES];
-    let got = fill(input, &mut file);
-    match got {
+    match fill(input, &mut file) {
         Ok(n) => report(rt, &file, n),
         Err(why) => fail(rt, name, why),
     }
@@ -51,78 +50,35 @@ fn check(
 // Reads until the buffer is full or the input ends, and returns the number of bytes. A failed read is not taken for
 // the end.
 fn fill(input: &mut impl Read, file: &mut [u8]) -> io::Result<usize> {
-    let mut done = 0;
-    while done < file.len() {
-        let more = input.read(&mut file[done..])?;
-        if more == 0 {
-            return Ok(done);
-        }
-        done += more;
-    }
-    Ok(done)
+    let mut most = input.take(file.len() as u64);
+    let mut room = file;
+    let n = io::copy(&mut most, &mut room)?;
+    Ok(n as usize)
 }
 
-// Prints the answer for the first `len` bytes. The list has room for all errors. The line of a refusal has its number
-// alone, even if it carries a node.
+// Prints the answer for the first `len` bytes of an array, as filepass::check_read takes them (its clauses buffer_len
+// and errors_len): a program with shorter arrays is not proved. The list has room for all errors.
+// The line of a refusal has its number alone, even if it carries a node.
 fn report(rt: &impl Print, file: &[u8; ENOUGH_BYTES], len: usize) -> io::Result<()> {
     let mut errors = [0u32; ENOUGH_WORDS];
     let passed = filepass::check_read(file, len, &mut errors);
     match passed {
-        Passed::Listed { nodes, total } => {
-            say_line(rt, b"nodes ", nodes as u64)?;
+        Ok(Passed { nodes, total }) => {
+            println!(rt; "nodes {nodes}")?;
             say_errors(rt, &errors, total)?;
-            say_line(rt, b"errors ", total as u64)
+            println!(rt; "errors {total}")
         }
-        Passed::Refused(why) => say_line(rt, b"refused ", table::number(why) as u64),
+        Err(why) => println!(rt; "refused {}", table::number(why)),
     }
 }
 
 // Prints a line for each error, with its words.
-fn say_errors(rt: &impl Print, errors: &[u32; ENOUGH_WORDS], total: u32) -> io::Result<()> {
-    let mut left: &[u32] = errors;
-    let mut more = total;
-    while 0 < more {
-        if left.len() < WIDTH {
-            return Ok(());
-        }
-        say_words(rt, &left[0..WIDTH])?;
-        left = &left[WIDTH..];
-        more -= 1;
+fn say_errors(rt: &impl Print, errors: &[u32], total: u32) -> io::Result<()> {
+    let (errors, _) = errors.as_chunks::<WIDTH>();
+    for &[number, file, begin, end] in errors.iter().take(total as usize) {
+        println!(rt; "{number} {file} {begin} {end}")?;
     }
     Ok(())
-}
-
-// Prints words on a line, separated by spaces.
-fn say_words(rt: &impl Print, words: &[u32]) -> io::Result<()> {
-    let n = words.len();
-    let mut i = 0;
-    while i < n {
-        say_word(rt, words[i], i)?;
-        i += 1;
-    }
-    say(rt, b"\n")
-}
-
-// Prints a word, with a space before it unless it is the first.
-fn say_word(rt: &impl Print, word: u32, place: usize) -> io::Result<()> {
-    if 0 < place {
-        say(rt, b" ")?;
-    }
-    say_number(rt, word as u64)
-}
-
-fn say_line(rt: &impl Print, text: &[u8], n: u64) -> io::Result<()> {
-    say(rt, text)?;
-    say_number(rt, n)?;
-    say(rt, b"\n")
-}
-
-fn say_number(rt: &impl Print, n: u64) -> io::Result<()> {
-    rt.print(n)
-}
-
-fn say(rt: &impl Print, text: &[u8]) -> io::Result<()> {
-    rt.write_all(text)
 }
 
 // Reports that the argument names no file, and why.
@@ -131,6 +87,8 @@ fn no_name(rt: &(impl Eprint + AllocGlobal), why: i32) -> io::Result<()> {
 }
 
 // Writes a line to standard error: what failed, a colon, and why in the system's words, without the number after them.
+// Each program has its own: a public function of a library must promise something (tools/gate/promises.py), and no
+// contract says what is printed.
 fn fail(rt: &(impl Eprint + AllocGlobal), what: &str, why: io::Error) -> io::Result<()> {
     let text = format!(in rt.alloc(); "{why}")?;
     match text.split_once(" (os error ") {

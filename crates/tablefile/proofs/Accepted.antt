@@ -4,6 +4,8 @@
 -- (`read_changed`). Conversely a content that passes 1 to 5 has one of the three headers (`sound_headed`), so it fits
 -- a file (`sound_fits`), which is accepted and read back as it (`back_accepted`, `back_holds`). No induction: each
 -- law is a case distinction on the tests. Assumes nothing.
+use Rattle.std.specs.Prelude.{Err, None, Ok, Option, Result, Some, ℕ}
+use Rattle.table.specs.declared.Refusal.{Refusal}
 use mathlib.Core.Path.{◌≡◌, refl, sym, ap, ◌∙◌}
 use mathlib.Core.Bool.{Bool, true, false}
 use mathlib.Core.Logic.{◌⊎◌, inl, inr, ⊎_elim}
@@ -18,12 +20,8 @@ use Rattle.fields.proofs.Basics.{never}
 use Rattle.dialect.specs.Bytes.{from_bytes}
 use Rattle.dialect.specs.Editions.{stated_bytes, edition_held}
 use Rattle.dialect.specs.declared.Dialect.{Dialect}
-use Rattle.dialect.specs.declared.Decoded.TheVariants.{Valid, Invalid}
 use Rattle.dialect.specs.declared.Edition.{Edition}
 use Rattle.dialect.specs.declared.Edition.TheVariants.{One, Two}
-use Rattle.dialect.specs.declared.EditionRead.TheVariants.{Known, Unknown}
-use Rattle.dialect.specs.declared.Stated.{Stated}
-use Rattle.dialect.specs.declared.Stated.TheVariants.{Number, Nothing}
 use Rattle.dialect.proofs.Laws.{other_length}
 use Rattle.dialect.proofs.Editions.{edition_number, edition_back, held_alone, held_number}
 use Rattle.table.specs.Numbers.{block_check, bytes_left_over}
@@ -38,18 +36,16 @@ use Rattle.tablefile.specs.File.{Content, file_of}
 use Rattle.tablefile.specs.Reading.{header_at, content_at, edition_read, front_check, sound_check}
 use Rattle.tablefile.specs.Reading.{read_check}
 use Rattle.tablefile.specs.Loading.{verdict}
-use Rattle.tablefile.specs.declared.Verdict.{Verdict}
-use Rattle.tablefile.specs.declared.Verdict.TheVariants.{Accepted, Refused}
 use Rattle.tablefile.proofs.Fronts.{Fronted, demand_then, fronted_then, taken_there}
 use Rattle.tablefile.proofs.Files.{Headed, bare, in_dialect, by_edition, Fits, front_is_file, front_changed}
 use Rattle.tablefile.proofs.Files.{file_passes, file_holds, file_taken}
 
 -- no two verdicts have the same meaning
-pub verdict_injective : (r s : Verdict) → verdict r ≡ verdict s → r ≡ s
-verdict_injective Accepted Accepted e = refl
-verdict_injective Accepted (Refused s) e = never_accepted s (sym e)
-verdict_injective (Refused r) Accepted e = never_accepted r e
-verdict_injective (Refused r) (Refused s) e = ap Refused (refusal_injective r s e)
+pub verdict_injective : (r s : Result (Unit {0}) Refusal) → verdict r ≡ verdict s → r ≡ s
+verdict_injective (Ok _) (Ok _) e = refl
+verdict_injective (Ok _) (Err s) e = never_accepted s (sym e)
+verdict_injective (Err r) (Ok _) e = never_accepted r e
+verdict_injective (Err r) (Err s) e = ap Err (refusal_injective r s e)
 
 -- an accepted file: its blocks pass, nothing is left over, and its content passes 1 to 5
 record Steps (bs : List ℕ) : Type 0 where
@@ -86,40 +82,40 @@ module _ (bs : List ℕ) (e : read_check bs ≡ accepted []) where
   read_changed i v h other = rw (front_changed bs read_fronted i v other (omega (arith, read_whole))) refl
 
 -- a dialect that is valid has no bytes or nine
-pub dialect_lengths : (ds : List ℕ) {d : Dialect} → from_bytes ds ≡ Valid d → (length ds ≡ 0) ⊎ (length ds ≡ 9)
+pub dialect_lengths : (ds : List ℕ) {d : Dialect} → from_bytes ds ≡ Some d → (length ds ≡ 0) ⊎ (length ds ≡ 9)
 dialect_lengths ds {d} e = go (eqb (length ds) 0) (eqb (length ds) 9) refl refl
   where
     go : (a b : Bool) → eqb (length ds) 0 ≡ a → eqb (length ds) 9 ≡ b → (length ds ≡ 0) ⊎ (length ds ≡ 9)
     go true b p q = inl (eqb-true (length ds) 0 p)
     go false true p q = inr (eqb-true (length ds) 9 q)
     go false false p q =
-        let bad : from_bytes ds ≡ Invalid = other_length ds (eqb-false (length ds) 0 p)
+        let bad : from_bytes ds ≡ None = other_length ds (eqb-false (length ds) 0 p)
         (eqb-false (length ds) 9 q) in
-        let no : Invalid ≡ Valid d = sym bad ∙ e in
+        let no : None ≡ Some d = sym bad ∙ e in
         never (cc)
 
 -- an edition that holds: none is stated, or one is stated after a dialect, and it has the edition's number
-pub held_cases : (ds : List ℕ) (s : Stated) {e : Edition} → edition_held ds (stated_bytes s) ≡ Known e
-    → (s ≡ Nothing) ⊎ ((length ds ≡ 0 → ⊥) × (s ≡ Number (edition_number e)))
-held_cases ds Nothing h = inl refl
-held_cases ds (Number n) {e} h = go (eqb (length ds) 0) refl
+pub held_cases : (ds : List ℕ) (s : Option ℕ) {e : Edition} → edition_held ds (stated_bytes s) ≡ Some e
+    → (s ≡ None) ⊎ ((length ds ≡ 0 → ⊥) × (s ≡ Some (edition_number e)))
+held_cases ds None h = inl refl
+held_cases ds (Some n) {e} h = go (eqb (length ds) 0) refl
   where
     go : (b : Bool) → eqb (length ds) 0 ≡ b
-        → (Number n ≡ Nothing) ⊎ ((length ds ≡ 0 → ⊥) × (Number n ≡ Number (edition_number e)))
+        → (Some n ≡ None) ⊎ ((length ds ≡ 0 → ⊥) × (Some n ≡ Some (edition_number e)))
     go true p =
-        let no : Unknown ≡ Known e = sym (held_alone ds n (eqb-true (length ds) 0 p)) ∙ h in
+        let no : None ≡ Some e = sym (held_alone ds n (eqb-true (length ds) 0 p)) ∙ h in
         never (cc)
     go false p =
         let some = eqb-false (length ds) 0 p in
-        inr (some, ap Number (edition_back n (sym (held_number ds n some) ∙ h)))
+        inr (some, ap Some (edition_back n (sym (held_number ds n some) ∙ h)))
 
 -- a content that passes 1 to 5: the table is clean, the dialect bytes are valid, and an edition holds
 pub record Knows (c : Content) : Type 0 where
   pub clean : Clean c.table c.names
   pub dialect : Dialect
-  pub decoded : from_bytes c.dialect ≡ Valid dialect
+  pub decoded : from_bytes c.dialect ≡ Some dialect
   pub edition : Edition
-  pub held : edition_read c ≡ Known edition
+  pub held : edition_read c ≡ Some edition
 
 pub sound_known : (c : Content) → sound_check c ≡ accepted [] → Knows c
 sound_known c sound =
@@ -138,9 +134,9 @@ pub record SoundContent (c : Content) : Type 0 where
 -- LAW: a content that passes 1 to 5 has one of the three headers
 pub sound_headed : (c : Content) → Knows c → Headed (length c.dialect) (length (stated_bytes c.edition))
 sound_headed c known = ⊎_elim
-    (λ (e : c.edition ≡ Nothing). rw e (⊎_elim (λ (n : length c.dialect ≡ 0). bare n refl)
+    (λ (e : c.edition ≡ None). rw e (⊎_elim (λ (n : length c.dialect ≡ 0). bare n refl)
     (λ (n : length c.dialect ≡ 9). in_dialect n refl) lengths))
-    (λ (e : (length c.dialect ≡ 0 → ⊥) × (c.edition ≡ Number (edition_number known.edition))). rw e.1
+    (λ (e : (length c.dialect ≡ 0 → ⊥) × (c.edition ≡ Some (edition_number known.edition))). rw e.1
     (⊎_elim (λ (n : length c.dialect ≡ 0). absurd (e.0 n)) (λ (n : length c.dialect ≡ 9). by_edition n refl)
     lengths))
     (held_cases c.dialect c.edition known.held)
@@ -151,8 +147,8 @@ sound_headed c known = ⊎_elim
 -- its edition is a byte
 pub sound_byte : (c : Content) → Knows c → Bytes (stated_bytes c.edition)
 sound_byte c known = ⊎_elim
-    (λ (e : c.edition ≡ Nothing). rw e (λ i. omega arith))
-    (λ (e : (length c.dialect ≡ 0 → ⊥) × (c.edition ≡ Number (edition_number known.edition))). rw e.1
+    (λ (e : c.edition ≡ None). rw e (λ i. omega arith))
+    (λ (e : (length c.dialect ≡ 0 → ⊥) × (c.edition ≡ Some (edition_number known.edition))). rw e.1
     (one known.edition))
     (held_cases c.dialect c.edition known.held)
   where

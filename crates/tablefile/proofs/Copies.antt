@@ -1,9 +1,9 @@
 -- Laws of `copy`, which copies a content from its blocks into a buffer, and of its callers. The loop copies the used
--- bytes of one block a turn. Its invariant `Copying` says: the bytes copied so far, followed by the content of the
--- remaining blocks, are the whole content, and the rest of the buffer is unchanged. A turn moves one block from the
--- second part to the first (`copy_on`, by blocks' `content_next`); when nothing remains the content is there
--- (`copy_end`). `laid_run`, `laid_names` and `dialect_laid` are the copies into arrays of zeros, `copied_far` to
--- `copied_all` the returns of `copy_content`. Assumes nothing.
+-- bytes of one block a turn. Its invariant `Copying` (`Turns` counts the turns) says: the bytes copied so far, followed
+-- by the content of the remaining blocks, are the whole content, and the rest of the buffer is unchanged. A turn moves
+-- one block from the second part to the first (`copy_on`, by blocks' `content_next`); when nothing remains the content
+-- is there (`copy_end`). `laid_run`, `laid_names` and `dialect_laid` are the copies into arrays of zeros, `copied_far`
+-- to `copied_all` the returns of `copy_content`. Assumes nothing.
 use mathlib.Core.Path.{◌≡◌, refl, sym, ap, ◌∙◌}
 use mathlib.Core.Bool.{and-false}
 use mathlib.Core.List.{List, ◌++◌, append_assoc, append-nil}
@@ -128,6 +128,48 @@ module _ {bs d : List ℕ} {first len : ℕ} {out : List ℕ} {number done : ℕ
       )
           s.same;
     }
+
+-- the loop: after i blocks, 504 bytes of each are copied, or all
+pub record Turns (bs d : List ℕ) (first len : ℕ) (out : List ℕ) (i : ℕ) : Type 0 where
+  pub copying : Copying bs d first len out (first + i) (min (504 * i) len)
+
+pub turns_start : {bs d : List ℕ} {first len : ℕ} → 512 * (first + blocks_for len) ≤ length bs → len ≤ length d
+    → Turns bs d first len d 0
+turns_start {bs} {d} {first} {len} h k =
+    let none : min 0 len ≡ 0 = omega arith in
+    let at : first + 0 ≡ first = omega arith in
+    record { copying = rw (none, at) (copy_start bs d first len h k) }
+
+-- a block that is needed begins before the end
+pub begun : (len : ℕ) {i n : ℕ} → n ≡ blocks_for len → i < n → 504 * i < len
+unfolding blocks_for
+begun len n_is h = omega arith
+
+module _ {bs d : List ℕ} {first len : ℕ} {out : List ℕ} {i : ℕ} (s : Turns bs d first len out i) {n : ℕ}
+    (n_is : n ≡ blocks_for len) where
+  pub turns_end : n ≤ i → out ≡ content_of len (drop (512 * first) bs) ++ drop len d
+  unfolding blocks_for
+  turns_end h = copy_end s.copying (omega arith)
+
+  module _ (h : i < n) where
+    here : Copying bs d first len out (first + i) (504 * i)
+    here = let e : min (504 * i) len ≡ 504 * i = omega (arith, begun len n_is h) in rw e at s.copying
+
+    pub turns_room : 504 * i ≤ length out
+    turns_room = omega (arith, begun len n_is h, here.room, here.long)
+
+    module _ {used : ℕ} (used-is : used ≡ min 504 (len - 504 * i)) {content : List ℕ}
+        (content_is : content ≡ content_in (first + i) bs) where
+      pub turns_fit : (used ≤ length content) × (used ≤ length (take (length out - 504 * i) (drop (504 * i) out)))
+      turns_fit = copy_fits here (begun len n_is h) used-is content_is
+
+      pub turns_on : {ys : List ℕ}
+          → ys ≡ take used content ++ drop used (take (length out - 504 * i) (drop (504 * i) out))
+          → Turns bs d first len (put_mid (504 * i) (length out - 504 * i) out ys) (i + 1)
+      turns_on ys-is =
+          let at : first + (i + 1) ≡ first + i + 1 = omega arith in
+          let upto : min (504 * (i + 1)) len ≡ 504 * i + used = omega (arith, begun len n_is h) in
+          record { copying = rw (at, upto) (copy_on here (begun len n_is h) used-is content_is ys-is) }
 
 -- the dialect
 module _ (bs : List ℕ) (len : ℕ) (h : 512 ≤ length bs) (few : len ≤ 9) where

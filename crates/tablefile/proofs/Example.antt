@@ -1,6 +1,7 @@
 -- The hypotheses of the theorems on files can be met, and not only trivially: the file of `x = 1`, a table of four
 -- records with a name, Standard's nine bytes and edition 1. That its content is sound is computed; that its file is
 -- accepted and read back as this content is `file_read_back`. Assumes nothing.
+use Rattle.std.specs.Prelude.{Ok, Some}
 use mathlib.Core.Path.{◌≡◌, refl, sym}
 use mathlib.Core.Bool.{Bool, true, ◌&&◌}
 use mathlib.Core.List.{List, [], ◌∷◌, ◌++◌}
@@ -14,7 +15,6 @@ use Rattle.fields.proofs.Basics.{and_left, and_right}
 use Rattle.fields.proofs.Spelling.{Bytes}
 use Rattle.dialect.specs.Bytes.{within, valid_bytes, from_bytes}
 use Rattle.dialect.specs.Editions.{edition_of, edition_held}
-use Rattle.dialect.specs.declared.Stated.TheVariants.{Number}
 use Rattle.forest.specs.Forest.{size_of, kids_of, rest_of, forest_in, forest, count, count_tree}
 use Rattle.forest.specs.Names.{same}
 use Rattle.soundness.specs.KindNumbers.{kind_statements, kind_assign, kind_identifier, kind_int}
@@ -29,7 +29,6 @@ use Rattle.table.specs.Depth.{class_weight, weight, first_deep, deep_in}
 use Rattle.tablefile.specs.File.{Content, file_of}
 use Rattle.tablefile.specs.Reading.{sound_check}
 use Rattle.tablefile.specs.Loading.{loaded_of}
-use Rattle.tablefile.specs.declared.Verdict.TheVariants.{Accepted}
 use Rattle.tablefile.specs.declared.Loaded.{Loaded}
 use Rattle.tablefile.proofs.Accepted.{SoundContent, back_holds, back_taken, back_accepted}
 use Rattle.tablefile.proofs.Theorems.{Read, file_read_back}
@@ -45,7 +44,7 @@ content = record {
       ++ (bytes_of kind_assign 0 0 5 3 1 ++ (bytes_of kind_identifier 1 0 1 1 1 ++ bytes_of kind_int 0 4 5 1 1));
   names = 120 ∷ [];
   dialect = 1 ∷ 1 ∷ 1 ∷ 0 ∷ 0 ∷ 0 ∷ 1 ∷ 0 ∷ 0 ∷ [];
-  edition = Number 1;
+  edition = Some 1;
 }
 
 -- numbers that are bytes, by a test
@@ -79,10 +78,10 @@ meets = record {
 }
 
 -- so an accepted answer meets the promise of `read` on its file
-pub answered : Read (file_of content) (loaded_of Accepted content (length (file_of content)))
+pub answered : Read (file_of content) (loaded_of (Ok tt) content (length (file_of content)))
 unfolding loaded_of
 answered = (sym (back_accepted content meets), rw (back_holds content meets, back_taken content meets) refl)
 
 -- it is the only such answer
-pub only_answer : (r : Loaded) → Read (file_of content) r → r ≡ loaded_of Accepted content (length (file_of content))
+pub only_answer : (r : Loaded) → Read (file_of content) r → r ≡ loaded_of (Ok tt) content (length (file_of content))
 only_answer r p = file_read_back content r meets p

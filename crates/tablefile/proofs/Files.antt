@@ -4,6 +4,7 @@
 -- content passes, holds that content and has the length that its header states. The three headers are without a
 -- dialect, with one, and with a dialect and an edition (`Headed`); dialect and edition are one list here (`tail_is`,
 -- `tail_there`). Cite `front_is_file`, `front_changed`, `file_passes`, `file_holds`, `file_taken`. Assumes nothing.
+use Rattle.std.specs.Prelude.{None, Option, Some, ℕ}
 use mathlib.Core.Path.{◌≡◌, refl, sym, ap, ◌∙◌}
 use mathlib.Core.Bool.{true}
 use mathlib.Core.Logic.{⊎_elim}
@@ -15,8 +16,6 @@ use lib.ListN.{length, get_or, take, drop, set, replicate, length-append}
 use lib.Seq.{take_at, drop_at, take-take, take-add, drop-drop, take-set-le}
 use Rattle.fields.proofs.Basics.{drop_take, le_or_lt}
 use Rattle.dialect.specs.Editions.{stated_bytes}
-use Rattle.dialect.specs.declared.Stated.{Stated}
-use Rattle.dialect.specs.declared.Stated.TheVariants.{Number, Nothing}
 use Rattle.fields.specs.Field.{field}
 use Rattle.fields.proofs.Fields.{field_drop, field_take}
 use Rattle.table.specs.Numbers.{block_check}
@@ -206,9 +205,9 @@ headed_place (in_dialect p q) bs = rw q refl
 headed_place (by_edition p q) bs = rw p refl
 
 -- an edition, by its bytes
-stated_back : (e : Stated) → stated_in (stated_bytes e) ≡ e
-stated_back (Number n) = refl
-stated_back Nothing = refl
+stated_back : (e : Option ℕ) → stated_in (stated_bytes e) ≡ e
+stated_back (Some n) = refl
+stated_back None = refl
 
 module _ (c : Content) (fit : Fits c) (rest : List ℕ) where
   abbrev edition : List ℕ

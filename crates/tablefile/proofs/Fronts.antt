@@ -4,6 +4,7 @@
 -- in the order of the tests; counts within the limits keep every product within the machine's numbers (`nodes_fit`,
 -- `first_word`, `first_bytes`). `Fronted` lists what accepted blocks fulfil: cite `fronted` or `fronted_then`.
 -- `sound_refused` and `sound_passed` are the returns of `check`. Assumes nothing.
+use Rattle.std.specs.Prelude.{Err, Ok, Option, Result, ℕ}
 use mathlib.Core.Path.{◌≡◌, refl, sym, ap, ◌∙◌}
 use mathlib.Core.Bool.{Bool, true, false, ◌&&◌, ◌||◌}
 use mathlib.Core.List.{List, [], ◌∷◌, ◌++◌}
@@ -20,21 +21,14 @@ use Rattle.fields.proofs.Basics.{and_left, and_right}
 use Rattle.dialect.specs.Editions.{stated_bytes, edition_held}
 use Rattle.dialect.specs.declared.Dialect.{Dialect}
 use Rattle.dialect.specs.declared.Edition.{Edition}
-use Rattle.dialect.specs.declared.EditionRead.{EditionRead}
-use Rattle.dialect.specs.declared.Stated.{Stated}
 use Rattle.table.specs.Numbers.{block_counts}
 use Rattle.table.specs.Answer.{Answer, accepted, refused, and_then, refusal}
 use Rattle.table.specs.Check.{ruled, rules_of}
 use Rattle.table.specs.declared.Refusal.{Refusal}
-use Rattle.table.specs.declared.Ruled.{Ruled}
-use Rattle.table.specs.declared.Ruled.TheVariants.{By, Refused as Away}
 use Rattle.table.proofs.Answers.{after_both, never_passed}
 use Rattle.table.proofs.Ruling.{unruled_is, by_is}
 use Rattle.blocks.specs.Block.{demand, judge, judged}
 use Rattle.blocks.specs.Run.{blocks_for, judge_run}
-use Rattle.blocks.specs.declared.Judged.{Judged}
-use Rattle.blocks.specs.declared.Judged.TheVariants.{Passed}
-use Rattle.blocks.specs.declared.Judged.TheVariants as judgements
 use Rattle.blocks.proofs.Blocks.{Passing, passing, passing_then}
 use Rattle.blocks.proofs.Runs.{run_long, run_then, content_long}
 use Rattle.tablefile.specs.File.{most_blocks}
@@ -187,12 +181,12 @@ pub used_small : (bs : List ℕ) {h : Heading} → h ≡ header_at bs → used_o
 used_small bs h-is = rw h-is (omega (arith, dialect_few bs, edition_few bs))
 
 -- the returns of `judge_front` in order; h is the header
-module _ (bs : List ℕ) (h : Heading) (z : Judged) (z-is : judged z ≡ judge 0 (used_of h) bs) where
-  pub front_zero : {n : ℕ} → z ≡ judgements.Refused n → refused n [] ≡ blocks_check h bs
+module _ (bs : List ℕ) (h : Heading) (z : Result (Unit {0}) ℕ) (z-is : judged z ≡ judge 0 (used_of h) bs) where
+  pub front_zero : {n : ℕ} → z ≡ Err n → refused n [] ≡ blocks_check h bs
   unfolding blocks_check
   front_zero e = rw (← z-is, e) refl
 
-  module _ (z-good : z ≡ Passed) where
+  module _ (z-good : z ≡ Ok tt) where
     pub zero_long : 512 ≤ length bs
     zero_long = (passing 0 (used_of h) bs (sym (rw z-good at z-is))).long
 
@@ -201,24 +195,24 @@ module _ (bs : List ℕ) (h : Heading) (z : Judged) (z-is : judged z ≡ judge 0
       unfolding blocks_check
       front_counts f-no = rw (← z-is, z-good, ← f-is, f-no) refl
 
-      module _ (f-yes : f ≡ true) (r : Judged)
+      module _ (f-yes : f ≡ true) (r : Result (Unit {0}) ℕ)
           (r-is : judged r ≡ judge_run 1 h.names (take (length bs - 512) (drop 512 bs))) where
         run : judge_run 1 h.names (drop 512 bs) ≡ judged r
         run = sym (r-is ∙ ap (judge_run 1 h.names) (tail_part 512 bs))
 
-        pub front_names : {n : ℕ} → r ≡ judgements.Refused n → refused n [] ≡ blocks_check h bs
+        pub front_names : {n : ℕ} → r ≡ Err n → refused n [] ≡ blocks_check h bs
         unfolding blocks_check
         front_names e = rw (← z-is, z-good, ← f-is, f-yes, run, e) refl
 
-        module _ (r-good : r ≡ Passed) where
+        module _ (r-good : r ≡ Ok tt) where
           pub front_nodes : {x : Answer} → x ≡ judge_run h.first (24 * h.nodes)
               (take (length bs - 512 * h.first) (drop (512 * h.first) bs)) → x ≡ blocks_check h bs
           unfolding blocks_check
           front_nodes x-is = x-is ∙ rw (tail_part (512 * h.first) bs, ← z-is, z-good, ← f-is, f-yes, run, r-good) refl
 
 -- a run of names that passes is present whole
-pub names_long : (bs : List ℕ) {h : Heading} → h ≡ header_at bs → (r : Judged)
-    → judged r ≡ judge_run 1 h.names (take (length bs - 512) (drop 512 bs)) → r ≡ Passed → 512 ≤ length bs
+pub names_long : (bs : List ℕ) {h : Heading} → h ≡ header_at bs → (r : Result (Unit {0}) ℕ)
+    → judged r ≡ judge_run 1 h.names (take (length bs - 512) (drop 512 bs)) → r ≡ Ok tt → 512 ≤ length bs
     → 512 * h.first ≤ length bs
 names_long bs {h} h-is r r-is r-good long =
     let run : judge_run 1 h.names (drop 512 bs) ≡ judged r =
@@ -323,10 +317,10 @@ module _ (bs : List ℕ) where
     dialect_length = dialect_long bs (header_at bs).dialect f.header.long (dialect_few bs)
 
 -- the returns of `check`: x is the answer of `edition_held`, and g that of `enter_rules`
-module _ (t : List ℕ) (a : ℕ) (ns : List ℕ) (b : ℕ) (ds : List ℕ) (d : ℕ) (edition : Stated) {x : EditionRead}
-    (x-is : x ≡ edition_held (take (d - 0) ds) (stated_bytes edition)) (g : Ruled)
+module _ (t : List ℕ) (a : ℕ) (ns : List ℕ) (b : ℕ) (ds : List ℕ) (d : ℕ) (edition : Option ℕ) {x : Option Edition}
+    (x-is : x ≡ edition_held (take (d - 0) ds) (stated_bytes edition)) (g : Result (Dialect × Edition) Refusal)
     (g-is : ruled g ≡ rules_of (take (a - 0) t) (take (b - 0) ns) (take (d - 0) ds) x) where
-  abbrev held : EditionRead
+  abbrev held : Option Edition
   held = edition_held (take d ds) (stated_bytes edition)
 
   cut : ruled g ≡ rules_of (take a t) (take b ns) (take d ds) held
@@ -336,10 +330,10 @@ module _ (t : List ℕ) (a : ℕ) (ns : List ℕ) (b : ℕ) (ds : List ℕ) (d :
       let r : d - 0 ≡ d = omega arith in
       rw (x-is, p, q, r) at g-is
 
-  pub sound_refused : {why : Refusal} → g ≡ Away why → refusal why
+  pub sound_refused : {why : Refusal} → g ≡ Err why → refusal why
       ≡ sound_check (record { table = take a t; names = take b ns; dialect = take d ds; edition = edition })
   sound_refused e = rw (unruled_is (take a t) (take b ns) (take d ds) held cut e) refl
 
-  pub sound_passed : {f : Dialect} {n : Edition} → g ≡ By f n → accepted []
+  pub sound_passed : {p : Dialect × Edition} → g ≡ Ok p → accepted []
       ≡ sound_check (record { table = take a t; names = take b ns; dialect = take d ds; edition = edition })
   sound_passed e = rw (by_is (take a t) (take b ns) (take d ds) held cut e) refl

@@ -4,6 +4,8 @@
 -- arrays, `copied_holds` for one that copies the content itself. `read_into` unpacks into arrays of its own, which then
 -- hold the file (`read_holds`); 1 to 5 and 7 on them are the rest of the check (`into_so`). A buffer changes only if
 -- all is passed (`into_kept`, `into_table_done`, `into_names_done`). Assumes nothing.
+use Rattle.std.specs.Prelude.{Err, None, Ok, Option, Result, Some, ℕ}
+use Rattle.table.specs.declared.Refusal.{Refusal}
 use mathlib.Core.Path.{◌≡◌, refl, sym, ap, ◌∙◌}
 use mathlib.Core.Bool.{Bool, true, false, ◌&&◌}
 use mathlib.Core.List.{List, [], ◌++◌}
@@ -17,23 +19,16 @@ use borrow.Author.Tests.{le-leb, lt-leb, leb-true}
 use Rattle.fields.specs.Field.{field}
 use Rattle.fields.proofs.Basics.{clash, and_left, and_right}
 use Rattle.fields.proofs.Fields.{tail_part}
-use Rattle.dialect.specs.declared.Stated.{Stated}
-use Rattle.dialect.specs.declared.Stated.TheVariants.{Number, Nothing}
 use Rattle.table.specs.Numbers.{short_buffer, bytes_left_over}
 use Rattle.table.specs.Answer.{Answer, accepted, refused, and_then, is_refused}
 use Rattle.table.proofs.Answers.{after_both, passed_both, test_passed}
 use Rattle.blocks.specs.Block.{demand, judged}
 use Rattle.blocks.specs.Run.{blocks_for, content_of}
-use Rattle.blocks.specs.declared.Judged.{Judged}
-use Rattle.blocks.specs.declared.Judged.TheVariants.{Passed}
-use Rattle.blocks.specs.declared.Judged.TheVariants as judgements
 use Rattle.tablefile.specs.Reading.{dialect_in, edition_in, header_at, content_at, blocks_check}
 use Rattle.tablefile.specs.Reading.{front_check, sound_check, read_check}
 use Rattle.tablefile.specs.Loading.{verdict}
 use Rattle.tablefile.specs.Lending.{file_check, into_check, handed, copied, Holds}
 use Rattle.tablefile.specs.declared.Heading.{Heading}
-use Rattle.tablefile.specs.declared.Verdict.{Verdict}
-use Rattle.tablefile.specs.declared.Verdict.TheVariants.{Accepted}
 use Rattle.tablefile.proofs.Copies.{copied_is}
 use Rattle.tablefile.proofs.Fronts.{first_is, taken_is, Fronted, fronted_then, first_there_lem, taken_there}
 use Rattle.tablefile.proofs.Fronts.{table_length_lem, names_length}
@@ -65,7 +60,7 @@ module _ (bs : List ℕ) where
 
 -- the returns of `stated_edition`
 module _ (bs : List ℕ) where
-  pub edition_away : length bs < 18 → Nothing ≡ (content_at bs).edition
+  pub edition_away : length bs < 18 → None ≡ (content_at bs).edition
   unfolding content_at
   edition_away h = rw (drop_of_length-le bs {i = 17} (omega arith), take-nil {A = ℕ} (header_at bs).edition) refl
 
@@ -74,11 +69,11 @@ module _ (bs : List ℕ) where
     unfolding header_at
     so_many_editions = rw (n_is.0, used-is) refl
 
-    pub edition_absent : n ≡ 0 → Nothing ≡ (content_at bs).edition
+    pub edition_absent : n ≡ 0 → None ≡ (content_at bs).edition
     unfolding content_at
     edition_absent e = rw (so_many_editions, e) refl
 
-    pub edition_there : (n ≡ 0 → ⊥) → 18 ≤ length bs → Number (get_or bs 17 0) ≡ (content_at bs).edition
+    pub edition_there : (n ≡ 0 → ⊥) → 18 ≤ length bs → Some (get_or bs 17 0) ≡ (content_at bs).edition
     unfolding content_at
     edition_there e h =
         let one : (header_at bs).edition ≡ 1 = omega (arith, so_many_editions, n_is.1) in
@@ -110,15 +105,16 @@ module _ {x y : Answer} (y-is : y ≡ x) {q : Bool} (q-is : q ≡ is_refused y) 
       go (refused n us) e = refl
 
 -- the returns of `judge_file`: 70 to 75
-module _ (bs : List ℕ) {h : Heading} (h-is : h ≡ header_at bs) (j : Judged) (j-is : judged j ≡ blocks_check h bs) where
+module _ (bs : List ℕ) {h : Heading} (h-is : h ≡ header_at bs) (j : Result (Unit {0}) ℕ)
+    (j-is : judged j ≡ blocks_check h bs) where
   front_is : judged j ≡ front_check bs
   front_is = rw h-is at j-is
 
-  pub file_blocks : {n : ℕ} → j ≡ judgements.Refused n → refused n [] ≡ file_check bs
+  pub file_blocks : {n : ℕ} → j ≡ Err n → refused n [] ≡ file_check bs
   unfolding file_check
   file_blocks e = rw (← front_is, e) refl
 
-  module _ (j-good : j ≡ Passed) where
+  module _ (j-good : j ≡ Ok tt) where
     pub file_left : h.taken < length bs → refused bytes_left_over [] ≡ file_check bs
     unfolding file_check
     file_left k = rw (← front_is, j-good, lt-leb (length bs) (header_at bs).taken (rw h-is at k)) refl
@@ -292,7 +288,8 @@ module _ (bs : List ℕ) (good : file_check bs ≡ accepted []) {h : Heading} (h
   }
 
 -- the arrays that `unpack` has filled, for a job that runs on them: v is its answer
-module _ (bs : List ℕ) (v : Verdict) (v-is : verdict v ≡ file_check bs) (v-good : v ≡ Accepted) {h : Heading}
+module _ (bs : List ℕ) (v : Result (Unit {0}) Refusal) (v-is : verdict v ≡ file_check bs) (v-good : v ≡ Ok tt)
+    {h : Heading}
     (h-is : h ≡ header_at bs) where
   pub unpacked_good : file_check bs ≡ accepted []
   unpacked_good = sym v-is ∙ ap verdict v-good
@@ -366,7 +363,7 @@ module _ {bs wt wn : List ℕ} (holds : Holds bs wt wn) {h : Heading} (h-is : h 
 
   -- s is the answer of 1 to 5 on the arrays, j that of 7 after it for buffers of a and b bytes, q whether j is a
   -- refusal
-  module _ {d : List ℕ} (d-is : d ≡ (content_at bs).dialect) {edition : Stated}
+  module _ {d : List ℕ} (d-is : d ≡ (content_at bs).dialect) {edition : Option ℕ}
       (edition-is : edition ≡ (content_at bs).edition) {s : Answer}
       (s-is : s ≡ sound_check (record {
         table = take (24 * h.nodes) wt;

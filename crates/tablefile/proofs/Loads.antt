@@ -4,6 +4,7 @@
 -- `read_check`: refused by a block (`read_front`), by bytes left over (`read_left`), by 1 to 5 (`read_unsound`), or
 -- accepted (`read_sound`); `meets_refused` and `meets_accepted` turn each into both promises. No induction. Assumes
 -- nothing.
+use Rattle.std.specs.Prelude.{Err, Ok, Option, Result, ℕ}
 use mathlib.Core.Path.{◌≡◌, refl, sym, ap, ◌∙◌}
 use mathlib.Core.List.{List, []}
 use Prim.Native.Nat.{ℕ, ◌+◌, ◌*◌, ◌-◌, ◌^◌, ◌<◌, ◌≤◌}
@@ -11,21 +12,15 @@ use native.Mathlib.Omega.{arith}
 use lib.ListN.{length, take, drop, replicate, length-append}
 use lib.Seq.{take-append_seam}
 use borrow.Author.Tests.{le-leb, lt-leb}
-use Rattle.dialect.specs.declared.Stated.{Stated}
 use Rattle.table.specs.Numbers.{bytes_left_over}
 use Rattle.table.specs.Answer.{Answer, accepted, refused, refusal}
 use Rattle.table.specs.declared.Refusal.{Refusal}
 use Rattle.blocks.specs.Block.{judged}
 use Rattle.blocks.specs.Run.{blocks_for, content_of}
-use Rattle.blocks.specs.declared.Judged.{Judged}
-use Rattle.blocks.specs.declared.Judged.TheVariants.{Passed}
-use Rattle.blocks.specs.declared.Judged.TheVariants as judgements
 use Rattle.tablefile.specs.File.{Content}
 use Rattle.tablefile.specs.Reading.{header_at, content_at, blocks_check, front_check, sound_check, read_check}
 use Rattle.tablefile.specs.declared.Heading.{Heading}
 use Rattle.tablefile.specs.Loading.{verdict, laid, loaded_of, none, held}
-use Rattle.tablefile.specs.declared.Verdict.{Verdict}
-use Rattle.tablefile.specs.declared.Verdict.TheVariants.{Accepted, Refused}
 use Rattle.tablefile.specs.declared.Loaded.{Loaded}
 use Rattle.tablefile.proofs.Fronts.{first_is, taken_is, dialect_few, Fronted, fronted, first_there_lem}
 use Rattle.tablefile.proofs.Fronts.{taken_there, table_length_lem, names_length, dialect_length}
@@ -47,13 +42,13 @@ module _ (bs : List ℕ) {h : Heading} (h-is : h ≡ header_at bs) (passed : fro
   pub load_dialect : (512 ≤ length bs) × (h.dialect ≤ 9)
   load_dialect = (f.header.long, rw h-is (dialect_few bs))
 
-  pub load_is : {ts ns ds : List ℕ} {edition : Stated}
+  pub load_is : {ts ns ds : List ℕ} {edition : Option ℕ}
       → ts ≡ laid 50400 (content_of (24 * h.nodes) (drop (512 * h.first) bs))
       → ns ≡ laid 8064 (content_of h.names (drop 512 bs)) → ds ≡ laid 9 (take h.dialect (drop 8 bs))
       → edition ≡ (content_at bs).edition
       → ◌≡◌ {A = Loaded}
       (record {
-        verdict = Accepted;
+        verdict = (Ok tt);
         taken = h.taken;
         table = ts;
         table_len = 24 * h.nodes;
@@ -63,14 +58,14 @@ module _ (bs : List ℕ) {h : Heading} (h-is : h ≡ header_at bs) (passed : fro
         dialect_len = h.dialect;
         edition = edition;
       })
-      (loaded_of Accepted (content_at bs) (header_at bs).taken)
+      (loaded_of (Ok tt) (content_at bs) (header_at bs).taken)
   unfolding loaded_of content_at
   load_is ts-is ns-is ds-is edition-is =
       rw (ts-is, ns-is, ds-is, edition-is, h-is, table_length_lem bs f, names_length bs f, dialect_length bs f) refl
 
 -- the content in an answer
 module _ (c : Content) (taken : ℕ) where
-  pub held_is : held (loaded_of Accepted c taken) ≡ c
+  pub held_is : held (loaded_of (Ok tt) c taken) ≡ c
   unfolding held loaded_of laid
   held_is = rw (
     take-append_seam c.table (replicate (50400 - length c.table) 0),
@@ -78,7 +73,7 @@ module _ (c : Content) (taken : ℕ) where
     take-append_seam c.dialect (replicate (9 - length c.dialect) 0),
   ) refl
 
-  pub within_arrays : {l : Loaded} → l ≡ loaded_of Accepted c taken
+  pub within_arrays : {l : Loaded} → l ≡ loaded_of (Ok tt) c taken
       → (l.table_len ≤ length l.table) × (l.names_len ≤ length l.names)
       × (l.dialect_len ≤ length l.dialect)
   unfolding loaded_of laid
@@ -91,29 +86,30 @@ module _ (c : Content) (taken : ℕ) where
 
 -- an answer meets both promises: its verdict has the given meaning, and the rest is that of the verdict
 module _ (x : Answer) (c : Content) (taken : ℕ) {r : Loaded} where
-  pub meets_refused : (why : Refusal) → r ≡ loaded_of (Refused why) none 0 → refusal why ≡ x
+  pub meets_refused : (why : Refusal) → r ≡ loaded_of (Err why) none 0 → refusal why ≡ x
       → (verdict r.verdict ≡ x) × (r ≡ loaded_of r.verdict c taken)
   unfolding loaded_of
   meets_refused why r-is x-is = rw r-is (x-is, refl)
 
-  pub meets_accepted : r ≡ loaded_of Accepted c taken → accepted [] ≡ x
+  pub meets_accepted : r ≡ loaded_of (Ok tt) c taken → accepted [] ≡ x
       → (verdict r.verdict ≡ x) × (r ≡ loaded_of r.verdict c taken)
   unfolding loaded_of
   meets_accepted r-is x-is = rw r-is (x-is, refl)
 
 -- the returns of `read`, in order
-module _ (bs : List ℕ) {h : Heading} (h-is : h ≡ header_at bs) (j : Judged) (j-is : judged j ≡ blocks_check h bs) where
+module _ (bs : List ℕ) {h : Heading} (h-is : h ≡ header_at bs) (j : Result (Unit {0}) ℕ)
+    (j-is : judged j ≡ blocks_check h bs) where
   judged_is : judged j ≡ front_check bs
   judged_is = rw h-is at j-is
 
-  pub read_front : {n : ℕ} → j ≡ judgements.Refused n → refused n [] ≡ read_check bs
+  pub read_front : {n : ℕ} → j ≡ Err n → refused n [] ≡ read_check bs
   unfolding read_check
   read_front e = rw (← judged_is, e) refl
 
-  pub front_passed : j ≡ Passed → front_check bs ≡ accepted []
+  pub front_passed : j ≡ Ok tt → front_check bs ≡ accepted []
   front_passed j-good = sym judged_is ∙ ap judged j-good
 
-  module _ (j-good : j ≡ Passed) {l : Loaded} (l-is : l ≡ loaded_of Accepted (content_at bs) (header_at bs).taken) where
+  module _ (j-good : j ≡ Ok tt) {l : Loaded} (l-is : l ≡ loaded_of (Ok tt) (content_at bs) (header_at bs).taken) where
     front_good : front_check bs ≡ accepted []
     front_good = front_passed j-good
 
@@ -125,7 +121,7 @@ module _ (bs : List ℕ) {h : Heading} (h-is : h ≡ header_at bs) (j : Judged) 
     unfolding read_check
     read_left h = rw (front_good, lt-leb (length bs) (header_at bs).taken (rw length_is at h)) refl
 
-    module _ (whole : length bs ≤ l.taken) (s : Verdict)
+    module _ (whole : length bs ≤ l.taken) (s : Result (Unit {0}) Refusal)
         (s-is : verdict s ≡ sound_check (record {
           table = take l.table_len l.table;
           names = take l.names_len l.names;
@@ -140,8 +136,8 @@ module _ (bs : List ℕ) {h : Heading} (h-is : h ≡ header_at bs) (j : Judged) 
       unfolding read_check
       read_so = rw (front_good, le-leb (length bs) (header_at bs).taken (rw length_is at whole)) sound_is
 
-      pub read_unsound : {why : Refusal} → s ≡ Refused why → refusal why ≡ read_check bs
+      pub read_unsound : {why : Refusal} → s ≡ Err why → refusal why ≡ read_check bs
       read_unsound e = sym (read_so ∙ ap verdict e)
 
-      pub read_sound : s ≡ Accepted → accepted [] ≡ read_check bs
+      pub read_sound : s ≡ Ok tt → accepted [] ≡ read_check bs
       read_sound e = sym (read_so ∙ ap verdict e)

@@ -2,19 +2,19 @@
 -- Where the promise is an equation, `coincide` suffices. A verdict is promised by its meaning; no two verdicts have
 -- the same meaning (Accepted's `verdict_injective`), so `coincide_by` applies. `read` promises its verdict by meaning
 -- and the rest as a function of that verdict (`one`). Assumes nothing.
+use Rattle.std.specs.Prelude.{Option, Result, ℕ}
+use Rattle.table.specs.declared.Refusal.{Refusal}
 use mathlib.Core.Path.{◌≡◌, sym, ap, ◌∙◌}
 use mathlib.Core.Bool.{Bool}
 use mathlib.Core.List.{List}
 use Prim.Native.Nat.{ℕ}
 use lib.ListN.{length}
 use Rattle.fields.proofs.Coincide.{coincide, coincide_by}
-use Rattle.dialect.specs.declared.Stated.{Stated}
 use Rattle.table.specs.Answer.{Answer}
 use Rattle.tablefile.specs.File.{Content}
 use Rattle.tablefile.specs.Reading.{header_at, content_at, number_held, counts_fit, read_check}
 use Rattle.tablefile.specs.Loading.{verdict, loaded_of}
 use Rattle.tablefile.specs.Lending.{file_check, into_check, handed, copied}
-use Rattle.tablefile.specs.declared.Verdict.{Verdict}
 use Rattle.tablefile.specs.declared.Loaded.{Loaded}
 use Rattle.tablefile.specs.declared.Heading.{Heading}
 use Rattle.tablefile.proofs.Accepted.{verdict_injective}
@@ -23,7 +23,8 @@ use Rattle.tablefile.proofs.Accepted.{verdict_injective}
 one : (x : Answer) (c : Content) (n : ℕ) (r s : Loaded) → verdict r.verdict ≡ x → r ≡ loaded_of r.verdict c n
     → verdict s.verdict ≡ x → s ≡ loaded_of s.verdict c n → r ≡ s
 one x c n r s p f q g =
-    f ∙ ap (λ (v : Verdict). loaded_of v c n) (verdict_injective r.verdict s.verdict (p ∙ sym q)) ∙ sym g
+    f ∙ ap (λ (v : Result (Unit {0}) Refusal). loaded_of v c n) (verdict_injective r.verdict s.verdict (p ∙ sym q))
+    ∙ sym g
 
 -- of `header`, the bytes as lent
 pub header_one : (bytes : List ℕ) {r s : Heading} → r ≡ header_at bytes → s ≡ header_at bytes → r ≡ s
@@ -36,11 +37,13 @@ pub read_one : (file : List ℕ) {r s : Loaded} → verdict r.verdict ≡ read_c
 read_one file {r} {s} = one _ _ _ r s
 
 -- of `judge_file`
-pub judge_file_one : (file : List ℕ) {r s : Verdict} → verdict r ≡ file_check file → verdict s ≡ file_check file → r ≡ s
+pub judge_file_one : (file : List ℕ) {r s : Result (Unit {0}) Refusal} → verdict r ≡ file_check file
+    → verdict s ≡ file_check file → r ≡ s
 judge_file_one file = coincide_by verdict verdict_injective
 
 -- of `unpack`, the file and the arrays as lent
-pub unpack_one : (file table names : List ℕ) {r s : Verdict} {table-r table-s : List ℕ} {names-r names-s : List ℕ}
+pub unpack_one : (file table names : List ℕ) {r s : Result (Unit {0}) Refusal} {table-r table-s : List ℕ}
+    {names-r names-s : List ℕ}
     → verdict r ≡ file_check file → table-r ≡ handed (file_check file) (content_at file).table table
     → names-r ≡ handed (file_check file) (content_at file).names names → verdict s ≡ file_check file
     → table-s ≡ handed (file_check file) (content_at file).table table
@@ -50,7 +53,8 @@ unpack_one file table names r-is t-is n_is s-is t-are n-are =
     (coincide_by verdict verdict_injective r-is s-is, coincide t-is t-are, coincide n_is n-are)
 
 -- of `read_into`, the file and the buffers as lent
-pub read_into_one : (file table names : List ℕ) {r s : Verdict} {table-r table-s : List ℕ} {names-r names-s : List ℕ}
+pub read_into_one : (file table names : List ℕ) {r s : Result (Unit {0}) Refusal} {table-r table-s : List ℕ}
+    {names-r names-s : List ℕ}
     → verdict r ≡ into_check file (length table) (length names)
     → table-r ≡ handed (into_check file (length table) (length names)) (content_at file).table table
     → names-r ≡ handed (into_check file (length table) (length names)) (content_at file).names names
@@ -67,12 +71,13 @@ pub dialect_bytes_one : (file : List ℕ) {r s : List ℕ} → r ≡ (content_at
 dialect_bytes_one file = coincide
 
 -- of `stated_edition`, the file as lent
-pub stated_edition_one : (file : List ℕ) {r s : Stated} → r ≡ (content_at file).edition → s ≡ (content_at file).edition
+pub stated_edition_one : (file : List ℕ) {r s : Option ℕ} → r ≡ (content_at file).edition
+    → s ≡ (content_at file).edition
     → r ≡ s
 stated_edition_one file = coincide
 
 -- of `edition_number`
-pub edition_number_one : (stated : Stated) {r s : ℕ} → r ≡ number_held stated → s ≡ number_held stated → r ≡ s
+pub edition_number_one : (stated : Option ℕ) {r s : ℕ} → r ≡ number_held stated → s ≡ number_held stated → r ≡ s
 edition_number_one stated = coincide
 
 -- of `copy_content`, the bytes and the buffer as lent

@@ -1,8 +1,7 @@
 -- The table file (docs/FORMAT.md, a table file): the one file of a table, names, a dialect or none, and an edition or
 -- none. These are definitions.
-use Rattle.std.specs.Prelude.{List, ◌++◌, ℕ, ◌+◌, ◌/◌, length}
+use Rattle.std.specs.Prelude.{List, ◌++◌, ℕ, ◌+◌, ◌/◌, length, Option}
 use Rattle.dialect.specs.Editions.{stated_bytes}
-use Rattle.dialect.specs.declared.Stated.{Stated}
 use Rattle.forest.specs.Forest.{record_bytes}
 use Rattle.fields.specs.Field.{bytes_of}
 use Rattle.blocks.specs.Block.{block_of}
@@ -13,7 +12,7 @@ pub record Content : Type 0 where
   pub table : List ℕ
   pub names : List ℕ
   pub dialect : List ℕ
-  pub edition : Stated
+  pub edition : Option ℕ
 
 -- the content of block 0: the numbers of nodes and of name bytes (2 bytes each), the dialect and the edition; so 4,
 -- 13 or 14 bytes are used

@@ -1,10 +1,8 @@
 -- Reading a table file: the file at the front of some bytes, and a file that is all of the bytes (docs/FORMAT.md, a
 -- table file). These are definitions.
-use Rattle.std.specs.Prelude.{Bool, ◌&&◌, ◌||◌, List, [], ◌∷◌, ℕ, ◌+◌, ◌*◌, length, take, drop, eqb, leb}
+use Rattle.std.specs.Prelude.{Bool, ◌&&◌, ◌||◌, List, [], ◌∷◌, ℕ, ◌+◌, ◌*◌, length, take, drop, eqb, leb, None, Option, Some}
+use Rattle.dialect.specs.declared.Edition.{Edition}
 use Rattle.dialect.specs.Editions.{stated_bytes, edition_held}
-use Rattle.dialect.specs.declared.EditionRead.{EditionRead}
-use Rattle.dialect.specs.declared.Stated.{Stated}
-use Rattle.dialect.specs.declared.Stated.TheVariants.{Number, Nothing}
 use Rattle.forest.specs.Forest.{record_bytes}
 use Rattle.fields.specs.Choice.{if'}
 use Rattle.fields.specs.Field.{field}
@@ -44,9 +42,9 @@ abbrev pub used_of : Heading → ℕ
 used_of h = 4 + h.dialect + h.edition
 
 -- the edition that these bytes state
-abbrev pub stated_in : List ℕ → Stated
-stated_in [] = Nothing
-stated_in (n ∷ ns) = Number n
+abbrev pub stated_in : List ℕ → Option ℕ
+stated_in [] = None
+stated_in (n ∷ ns) = Some n
 
 -- the content of the file: the dialect follows the counts, and the edition follows nine dialect bytes
 unfoldable pub content_at : List ℕ → Content
@@ -75,13 +73,13 @@ abbrev pub front_check : List ℕ → Answer
 front_check bs = blocks_check (header_at bs) bs
 
 -- the edition that holds: edition 1 if none is stated
-abbrev pub edition_read : Content → EditionRead
+abbrev pub edition_read : Content → Option Edition
 edition_read c = edition_held c.dialect (stated_bytes c.edition)
 
 -- the number of the edition that holds
-abbrev pub number_held : Stated → ℕ
-number_held (Number n) = n
-number_held Nothing = 1
+abbrev pub number_held : Option ℕ → ℕ
+number_held (Some n) = n
+number_held None = 1
 
 -- 1 to 5, on the content of a file
 abbrev pub sound_check : Content → Answer

@@ -12,28 +12,19 @@ ghost use Rattle.tablefile.specs.Reading.{dialect_in, edition_in, header_at, con
 ghost use Rattle.tablefile.specs.Reading.{blocks_check, front_check, sound_check, read_check};
 ghost use Rattle.tablefile.specs.Loading.{verdict, laid, loaded_of, none};
 ghost use Rattle.tablefile.specs.Lending.{file_check, into_check, handed, copied, Holds};
-ghost use Rattle.tablefile.specs.declared.Verdict.TheVariants.{Accepted, Refused};
 
-use blocks::{BLOCK_BYTES, Judged, bytes};
-use dialect::Stated;
+use blocks::{BLOCK_BYTES, CONTENT_BYTES};
 use forest::RECORD;
-use table::{MOST_BYTES, MOST_NAMES, MOST_NODES, Refusal, Ruled, numbers};
+use table::{MOST_BYTES, MOST_NAMES, MOST_NODES, Refusal, numbers};
 
 // The largest number of blocks in a file: block 0, 16 with 8,064 name bytes, 100 with 2,100 nodes.
 pub const MOST_BLOCKS: usize = 117;
-
-// Whether a file is accepted, or why it is refused.
-#[derive(Clone, Copy)]
-pub enum Verdict {
-    Accepted,
-    Refused(Refusal),
-}
 
 // The content of a file by value, and the number of bytes that the file takes. Without a dialect, dialect_len is 0. The
 // bytes past the lengths are zero. If the file is refused, all is zero, with no edition.
 #[derive(Clone, Copy)]
 pub struct Loaded {
-    pub verdict: Verdict,
+    pub verdict: Result<(), Refusal>,
     pub taken: usize,
     pub table: [u8; MOST_BYTES],
     pub table_len: usize,
@@ -41,7 +32,7 @@ pub struct Loaded {
     pub names_len: usize,
     pub dialect: [u8; 9],
     pub dialect_len: usize,
-    pub edition: Stated,
+    pub edition: Option<u32>,
 }
 
 // The header of a file, and from it the places of its blocks: the numbers of nodes, name bytes, dialect bytes and
@@ -83,7 +74,7 @@ pub fn read(file: &[u8]) -> Loaded
 {
     let h = header(file);
     let first = judge_front(file, h);
-    if let Judged::Refused(n) = first {
+    if let Err(n) = first {
         return refused(Refusal::Bare(n));
     }
     let l = load(file, h);
@@ -103,30 +94,34 @@ pub fn read(file: &[u8]) -> Loaded
         l.dialect_len,
         edition,
     );
-    if let Verdict::Refused(r) = sound {
+    if let Err(r) = sound {
         return refused(r);
     }
     l
 }
 
 // Judges a file and reads no content: 70 to 74 for its blocks, then 75 for bytes left over.
-pub fn judge_file(file: &[u8]) -> Verdict
+pub fn judge_file(file: &[u8]) -> Result<(), Refusal>
     ensures { verdict result ≡ file_check file.now }
 {
     let h = header(file);
     let first = judge_front(file, h);
-    if let Judged::Refused(n) = first {
-        return Verdict::Refused(Refusal::Bare(n));
+    if let Err(n) = first {
+        return Err(Refusal::Bare(n));
     }
     if h.taken < file.len() {
-        return Verdict::Refused(Refusal::Bare(numbers::BYTES_LEFT_OVER));
+        return Err(Refusal::Bare(numbers::BYTES_LEFT_OVER));
     }
-    Verdict::Accepted
+    Ok(())
 }
 
 // Reads a file into two arrays that are large enough for every file. Refuses with 70 to 75, and a refusal changes no
 // byte. Else table and names are written to the fronts of the arrays; they are not checked for 1 to 5.
-pub fn unpack(file: &[u8], table: &mut [u8; MOST_BYTES], names: &mut [u8; MOST_NAMES]) -> Verdict
+pub fn unpack(
+    file: &[u8],
+    table: &mut [u8; MOST_BYTES],
+    names: &mut [u8; MOST_NAMES],
+) -> Result<(), Refusal>
     ensures result_value { verdict result ≡ file_check file.now }
     ensures table_after { table.new ≡
         handed (file_check file.now) (content_at file.now).table table.old }
@@ -145,7 +140,7 @@ pub fn unpack(file: &[u8], table: &mut [u8; MOST_BYTES], names: &mut [u8; MOST_N
 
 // Reads a file into the caller's buffers. Refuses as `read` does, then with 7 if a buffer is shorter than the table or
 // the names. A refusal changes no byte, and the bytes past table and names stay.
-pub fn read_into(file: &[u8], table: &mut [u8], names: &mut [u8]) -> Verdict
+pub fn read_into(file: &[u8], table: &mut [u8], names: &mut [u8]) -> Result<(), Refusal>
     ensures result_value { verdict result ≡
         into_check file.now (length table.old) (length names.old) }
     ensures table_after { table.new ≡
@@ -198,30 +193,36 @@ pub fn dialect_bytes(file: &[u8]) -> &[u8]
 }
 
 // The edition that a file states, which is not judged: the byte after the dialect bytes, or nothing.
-pub fn stated_edition(file: &[u8]) -> Stated
+pub fn stated_edition(file: &[u8]) -> Option<u32>
     ensures { result ≡ (content_at file.now).edition }
 {
     if file.len() < 18 {
-        return Stated::Nothing;
+        return None;
     }
     if edition_in(fields::half(file, 2)) == 0 {
-        return Stated::Nothing;
+        return None;
     }
-    Stated::Number(file[17] as u32)
+    Some(file[17] as u32)
 }
 
 // The number of the edition that holds in a file: the one that it states, or 1. In an accepted file it is 1 or 2.
-pub fn edition_number(stated: Stated) -> u32
+pub fn edition_number(stated: Option<u32>) -> u32
     ensures { result ≡ number_held stated }
 {
     match stated {
-        Stated::Number(number) => number,
-        Stated::Nothing => 1,
+        Some(number) => number,
+        None => 1,
     }
 }
 
 // Checks 1 to 5 and then 7 on a file that was unpacked into two arrays; then writes table and names into the buffers.
-fn hand_over(file: &[u8], t: &[u8], n: &[u8], table: &mut [u8], names: &mut [u8]) -> Verdict
+fn hand_over(
+    file: &[u8],
+    t: &[u8],
+    n: &[u8],
+    table: &mut [u8],
+    names: &mut [u8],
+) -> Result<(), Refusal>
     requires { Holds file.now t.now n.now }
     ensures result_value { verdict result ≡
         into_check file.now (length table.old) (length names.old) }
@@ -247,44 +248,44 @@ fn hand_over(file: &[u8], t: &[u8], n: &[u8], table: &mut [u8], names: &mut [u8]
 }
 
 // A verdict, then 7 unless t bytes fit into a and n bytes into b.
-fn judge_room(found: Verdict, t: usize, a: usize, n: usize, b: usize) -> Verdict
+fn judge_room(
+    found: Result<(), Refusal>,
+    t: usize,
+    a: usize,
+    n: usize,
+    b: usize,
+) -> Result<(), Refusal>
     ensures { verdict result ≡ and_then (verdict found) (λ _. demand (leb t a && leb n b) short_buffer) }
 {
     if is_refused(found) {
         return found;
     }
     if (t <= a) & (n <= b) {
-        return Verdict::Accepted;
+        return Ok(());
     }
-    Verdict::Refused(Refusal::Bare(numbers::SHORT_BUFFER))
+    Err(Refusal::Bare(numbers::SHORT_BUFFER))
 }
 
 // Whether a verdict is a refusal.
-fn is_refused(found: Verdict) -> bool
+fn is_refused(found: Result<(), Refusal>) -> bool
     ensures { result ≡ is_refused (verdict found) }
 {
     match found {
-        Verdict::Accepted => false,
-        Verdict::Refused(_) => true,
+        Ok(()) => false,
+        Err(_) => true,
     }
 }
 
 // Judges the blocks of the file at the front, one after another.
-fn judge_front(bytes: &[u8], h: Heading) -> Judged
+fn judge_front(bytes: &[u8], h: Heading) -> Result<(), u32>
     requires { h ≡ header_at bytes.now }
     ensures { judged result ≡ blocks_check h bytes.now }
 {
-    let zero = blocks::judge(bytes, 0, 4 + h.dialect + h.edition);
-    if let Judged::Refused(n) = zero {
-        return Judged::Refused(n);
-    }
+    blocks::judge(bytes, 0, 4 + h.dialect + h.edition)?;
     if !counts_fit(h.nodes, h.names) {
-        return Judged::Refused(numbers::BLOCK_COUNTS);
+        return Err(numbers::BLOCK_COUNTS);
     }
-    let run = blocks::judge_run(&bytes[BLOCK_BYTES..], 1, h.names);
-    if let Judged::Refused(n) = run {
-        return Judged::Refused(n);
-    }
+    blocks::judge_run(&bytes[BLOCK_BYTES..], 1, h.names)?;
     let at = BLOCK_BYTES * h.first;
     blocks::judge_run(&bytes[at..], h.first as u16, RECORD * h.nodes)
 }
@@ -292,11 +293,11 @@ fn judge_front(bytes: &[u8], h: Heading) -> Judged
 // Loads the content of the file at the front, whose blocks pass.
 fn load(bytes: &[u8], h: Heading) -> Loaded
     requires { (h ≡ header_at bytes.now) × (front_check bytes.now ≡ accepted []) }
-    ensures { result ≡ loaded_of Accepted (content_at bytes.now) (header_at bytes.now).taken }
+    ensures { result ≡ loaded_of (Ok tt) (content_at bytes.now) (header_at bytes.now).taken }
 {
     let len = RECORD * h.nodes;
     Loaded {
-        verdict: Verdict::Accepted,
+        verdict: Ok(()),
         taken: h.taken,
         table: table_of(bytes, h.first, len),
         table_len: len,
@@ -316,8 +317,8 @@ fn check(
     n: usize,
     dialect: &[u8],
     d: usize,
-    edition: Stated,
-) -> Verdict
+    edition: Option<u32>,
+) -> Result<(), Refusal>
     requires { (t ≤ length table.now) × (n ≤ length names.now) × (d ≤ length dialect.now) }
     ensures { verdict result ≡
         sound_check (record {
@@ -328,22 +329,19 @@ fn check(
         }) }
 {
     let read = dialect::edition_held(&dialect[0..d], edition);
-    let entered = table::enter_rules(&table[0..t], &names[0..n], &dialect[0..d], read);
-    match entered {
-        Ruled::By {
-            dialect: _,
-            edition: _,
-        } => Verdict::Accepted,
-        Ruled::Refused(why) => Verdict::Refused(why),
+    // no `?`: the wrong answer bad_dialect_accepted is about the second arm
+    match table::enter_rules(&table[0..t], &names[0..n], &dialect[0..d], read) {
+        Ok(_) => Ok(()),
+        Err(why) => Err(why),
     }
 }
 
 // The answer for a refused file: the refusal, and zeros.
 fn refused(why: Refusal) -> Loaded
-    ensures { result ≡ loaded_of (Refused why) none 0 }
+    ensures { result ≡ loaded_of (Err why) none 0 }
 {
     Loaded {
-        verdict: Verdict::Refused(why),
+        verdict: Err(why),
         taken: 0,
         table: [0u8; MOST_BYTES],
         table_len: 0,
@@ -351,7 +349,7 @@ fn refused(why: Refusal) -> Loaded
         names_len: 0,
         dialect: [0u8; 9],
         dialect_len: 0,
-        edition: Stated::Nothing,
+        edition: None,
     }
 }
 
@@ -381,7 +379,7 @@ fn put(from: &[u8], len: usize, out: &mut [u8])
     requires { (len ≤ length from.now) × (len ≤ length out.old) }
     ensures { out.new ≡ take len from.now ++ drop len out.old }
 {
-    bytes::put(&from[0..len], 0, out)
+    out[0..len].copy_from_slice(&from[0..len]);
 }
 
 // Copies len content bytes, of the blocks numbered from `first` on, to the front of out, block by block.
@@ -390,13 +388,10 @@ fn copy(bytes: &[u8], first: usize, len: usize, out: &mut [u8])
     ensures { out.new ≡
         content_of len (drop (block_bytes * first) bytes.now) ++ drop len out.old }
 {
-    let mut number = first;
-    let mut done = 0;
-    while done < len {
+    for i in 0..blocks::blocks_for(len) {
+        let done = CONTENT_BYTES * i;
         let used = blocks::used_here(len - done);
-        put(blocks::content(bytes, number), used, &mut out[done..]);
-        number += 1;
-        done += used;
+        put(blocks::content(bytes, first + i), used, &mut out[done..]);
     }
 }
 

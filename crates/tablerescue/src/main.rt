@@ -5,10 +5,8 @@
 // reads and writes; what is rescued is decided by the library, rescue.
 #![tactic(auto)]
 
-ghost use Rattle.std.specs.Prelude.{◌≤◌, length, IfOk};
-
 use blocks::BLOCK_BYTES;
-use rescue::{Kept, Rescued};
+use rescue::Kept;
 use std::env::{Env, FillError};
 use std::fs::{self, File, OpenOptions};
 use std::io::{self, Read, Write};
@@ -39,6 +37,13 @@ const FILE_TOO_LONG: i32 = 27;
 
 const READ_FAILED: i32 = 5;
 
+// Why nothing is written: the file or the argument that a step failed at, and the system's reason.
+#[derive(Debug, Drop)]
+struct Failure<'a> {
+    what: &'a str,
+    why: io::Error,
+}
+
 fn main(rt: HostRuntime) -> io::Result<()> {
     let mut path = [0u8; MOST_NAME];
     let name = match argument(&rt, 1, &mut path) {
@@ -58,56 +63,44 @@ fn argument<'a>(rt: &impl Env, place: usize, space: &'a mut [u8]) -> io::Result<
         Err(FillError::NotPresent) => return Err(io::Error::from_raw_os_error(NO_NAME)),
         Err(FillError::TooLong) => return Err(io::Error::from_raw_os_error(NAME_TOO_LONG)),
     };
-    match str::from_utf8(&space[..k]) {
-        Ok(name) => Ok(name),
-        Err(_) => Err(io::Error::from_raw_os_error(NOT_TEXT)),
-    }
+    str::from_utf8(&space[..k]).map_err(|_| io::Error::from_raw_os_error(NOT_TEXT))
 }
 
-// Reads the first bytes, and counts those after them.
+// Reads the input, and rescues what it contains.
 fn run(rt: &HostRuntime, file: &mut impl Read, name: &str) -> io::Result<()> {
-    let mut input = [0u8; MOST_FILE];
-    let n = match fill(file, &mut input) {
-        Ok(n) => n,
-        Err(why) => return fail(rt, name, why),
-    };
-    let more = match count_rest(file) {
-        Ok(more) => more,
-        Err(why) => return fail(rt, name, why),
-    };
+    match read(rt, file) {
+        Ok((input, more)) => save(rt, input.as_slice(), more),
+        Err(why) => fail(rt, name, why),
+    }
+}
+
+// The first bytes of the input, and the number of bytes after them. A failed read is not taken for the end.
+fn read(rt: &impl AllocGlobal, file: &mut impl Read) -> io::Result<(Vec<u8>, u64)> {
+    let mut input = Vec::new(rt.alloc());
+    file.by_ref()
+        .take(MOST_FILE as u64)
+        .read_to_end(&mut input)?;
+    let more = count_rest(file)?;
     // the first part ended, and bytes came after it: the file has changed, so nothing is written
-    if (n < MOST_FILE) & (0 < more) {
-        return fail(rt, name, io::Error::from_raw_os_error(READ_FAILED));
+    if input.len() < MOST_FILE && 0 < more {
+        return Err(io::Error::from_raw_os_error(READ_FAILED));
     }
-    save(rt, &input[0..n], more)
+    Ok((input, more))
 }
 
-// Reads until the buffer is full or the input ends, and returns the number of bytes. A failed read is not taken for
-// the end.
-fn fill(file: &mut impl Read, input: &mut [u8]) -> io::Result<usize>
-    ensures { IfOk result (λ n. n ≤ length input.new) }
-{
-    let mut done = 0;
-    while done < input.len() {
-        let more = file.read(&mut input[done..])?;
-        if more == 0 {
-            return Ok(done);
-        }
-        done += more;
-    }
-    Ok(done)
-}
-
-// The number of bytes up to the end of the input.
+// The number of bytes up to the end of the input. `io::copy` into `io::sink` would take 1.3 times as long, since it
+// reads 8,192 bytes at once.
 fn count_rest(file: &mut impl Read) -> io::Result<u64> {
     let mut space = [0u8; AT_ONCE];
     let mut n = 0u64;
-    while n < MOST_COUNTED {
-        let more = file.read(&mut space)?;
-        if more == 0 {
-            return Ok(n);
+    for _ in 0..MOST_COUNTED {
+        match file.read(&mut space)? {
+            0 => return Ok(n),
+            more => n = n.saturating_add(more as u64),
         }
-        n += more as u64;
+        if MOST_COUNTED <= n {
+            break;
+        }
     }
     Err(io::Error::from_raw_os_error(FILE_TOO_LONG))
 }
@@ -117,92 +110,83 @@ fn save(rt: &HostRuntime, input: &[u8], more: u64) -> io::Result<()> {
     let mut file = [0u8; MOST_FILE];
     let rescued = rescue::rescue(input, &mut file);
     match rescued {
-        Rescued::Accepted(kept) => {
-            if keep(rt, &file, kept.bytes as usize)? {
-                say_kept(rt, kept, more)?;
-            }
-            Ok(())
-        }
-        Rescued::Refused(why) => say_line(rt, b"refused ", table::number(why) as u64),
+        Ok(kept) => match file.get(..kept.bytes as usize) {
+            Some(bytes) => keep(rt, bytes, kept, more),
+            None => Ok(()),
+        },
+        Err(why) => println!(rt; "refused {}", table::number(why)),
     }
 }
 
-// Writes the first `size` bytes of a file under the name OUT. Returns false if that fails.
-fn keep(rt: &HostRuntime, file: &[u8], size: usize) -> io::Result<bool> {
-    if file.len() < size {
-        return Ok(false);
-    }
+// Writes the rescued bytes under the name OUT and prints the counts, or reports why they are not written.
+fn keep(rt: &HostRuntime, bytes: &[u8], kept: Kept, more: u64) -> io::Result<()> {
     let mut new = [0u8; MOST_NAME];
-    let new_name = match argument(rt, 2, &mut new) {
-        Ok(name) => name,
-        Err(why) => return failed(rt, "the new file's name", why),
-    };
     let mut out = [0u8; MOST_NAME];
-    let out_name = match argument(rt, 3, &mut out) {
-        Ok(name) => name,
-        Err(why) => return failed(rt, "the rescued file's name", why),
-    };
-    replace(rt, &file[0..size], new_name, out_name)
+    match put_out(rt, bytes, &mut new, &mut out) {
+        Ok(()) => say_kept(rt, kept, more),
+        Err(failure) => fail(rt, failure.what, failure.why),
+    }
 }
 
-// Writes `new`, flushes it and renames it to `out`. Returns false if a step fails; `new` is then removed.
-fn replace(rt: &HostRuntime, bytes: &[u8], new: &str, out: &str) -> io::Result<bool> {
-    let made = OpenOptions::new()
+// Writes bytes under the name OUT. The names of the new file and of OUT are read into two buffers.
+fn put_out<'a>(
+    rt: &HostRuntime,
+    bytes: &[u8],
+    new: &'a mut [u8],
+    out: &'a mut [u8],
+) -> Result<(), Failure<'a>> {
+    let new = argument(rt, 2, new).map_err(|why| Failure {
+        what: "the new file's name",
+        why,
+    })?;
+    let out = argument(rt, 3, out).map_err(|why| Failure {
+        what: "the rescued file's name",
+        why,
+    })?;
+    replace(rt, bytes, new, out)
+}
+
+// Makes the file `new`, writes and flushes it, and renames it to `out`. If a later step than the first fails, `new` is
+// removed.
+fn replace<'a>(
+    rt: &HostRuntime,
+    bytes: &[u8],
+    new: &'a str,
+    out: &'a str,
+) -> Result<(), Failure<'a>> {
+    let file = OpenOptions::new()
         .write(true)
         .create_new(true)
-        .open(rt, new);
-    let file = match made {
-        Ok(file) => file,
-        Err(why) => return failed(rt, new, why),
+        .open(rt, new)
+        .map_err(|why| Failure { what: new, why })?;
+    let renamed = match put_all(file, bytes) {
+        Ok(()) => fs::rename(rt, new, out).map_err(|why| Failure { what: out, why }),
+        Err(why) => Err(Failure { what: new, why }),
     };
-    if let Err(why) = put_all(file, bytes) {
+    if renamed.is_err() {
         let _ = fs::remove_file(rt, new);
-        return failed(rt, new, why);
     }
-    if let Err(why) = fs::rename(rt, new, out) {
-        let _ = fs::remove_file(rt, new);
-        return failed(rt, out, why);
-    }
-    Ok(true)
+    renamed
 }
 
 // Writes all bytes, waits until they have reached the device, and closes the file.
-fn put_all(file: File, bytes: &[u8]) -> io::Result<()> {
-    let mut file = file;
+fn put_all(mut file: File, bytes: &[u8]) -> io::Result<()> {
     file.write_all(bytes)?;
     file.sync_all()
 }
 
 // Prints the counts of a rescue. The bytes after the last block are those among the first ones and the `more` after
-// them.
+// them, or the largest number if their sum is larger.
 fn say_kept(rt: &impl Print, kept: Kept, more: u64) -> io::Result<()> {
-    say_line(rt, b"statements ", kept.statements as u64)?;
-    say_line(rt, b"nodes ", kept.nodes as u64)?;
-    say_line(rt, b"dropped ", kept.dropped as u64)?;
-    say_line(rt, b"bytes ", sum(kept.after, more))
-}
-
-// The sum of two numbers, or the largest number if the sum is larger.
-fn sum(a: u64, b: u64) -> u64 {
-    if u64::MAX - a < b {
-        return u64::MAX;
-    }
-    a + b
-}
-
-fn say_line(rt: &impl Print, text: &[u8], n: u64) -> io::Result<()> {
-    rt.write_all(text)?;
-    rt.print(n)?;
-    rt.write_all(b"\n")
-}
-
-// The same as `fail`, for a function that says whether it has done its work.
-fn failed(rt: &(impl Eprint + AllocGlobal), what: &str, why: io::Error) -> io::Result<bool> {
-    fail(rt, what, why)?;
-    Ok(false)
+    println!(rt; "statements {}", kept.statements)?;
+    println!(rt; "nodes {}", kept.nodes)?;
+    println!(rt; "dropped {}", kept.dropped)?;
+    println!(rt; "bytes {}", kept.after.saturating_add(more))
 }
 
 // Writes a line to standard error: what failed, a colon, and why in the system's words, without the number after them.
+// Each program has its own: a public function of a library must promise something (tools/gate/promises.py), and no
+// contract says what is printed.
 fn fail(rt: &(impl Eprint + AllocGlobal), what: &str, why: io::Error) -> io::Result<()> {
     let text = format!(in rt.alloc(); "{why}")?;
     match text.split_once(" (os error ") {

@@ -4,6 +4,7 @@
 -- part of the table: its first tree is the target, and what follows the target is the type (forest's `forest_tree`,
 -- `kids_part`, `rest_part`). So the definition becomes three steps over that part (`steps`), and each test of the code
 -- decides the same step of it. The proofs of the functions cite these laws. Assumes nothing.
+use Rattle.std.specs.Prelude.{Err, Ok, Result, ℕ}
 use mathlib.Core.Path.{◌≡◌, refl, sym, ap, ◌∙◌}
 use mathlib.Core.Bool.{Bool, true, false, ◌&&◌}
 use mathlib.Core.List.{List, [], ◌∷◌}
@@ -22,8 +23,6 @@ use Rattle.table.specs.declared.Refusal.{Refusal}
 use Rattle.targets.specs.Targets.{is_group, check_assign, leaves, counted, modify_check, type_check}
 use Rattle.targets.specs.Targets.{check_assignment}
 use Rattle.targets.specs.Jobs.{targeted}
-use Rattle.targets.specs.declared.Targeted.{Targeted}
-use Rattle.targets.specs.declared.Targeted.TheVariants.{Leaves, Refused}
 use Rattle.table.proofs.Answers.{first_refused, first_accepted, same_values}
 
 -- the check of an assignment's type, where its target lhs has n leaves
@@ -80,17 +79,17 @@ module _ (i : ℕ) (t : List ℕ) {e : ℕ} (e-is : e ≡ span_of t) where
         → r ≡ refused_at invalid_modify_lhs (node_of (i + 1) lhs) → r ≡ check_assignment (tree_of i t)
     assignment_modify h r-is = r-is ∙ sym (steps ∙ rw (← k_is, ← l-is, ← g-is, h) refl)
 
-    module _ (no : (eqb k 12 && g) ≡ false) (f : Targeted) (f-is : targeted f ≡ counted 0 (tree_of (i + 1) lhs))
+    module _ (no : (eqb k 12 && g) ≡ false) (f : Result ℕ Refusal) (f-is : targeted f ≡ counted 0 (tree_of (i + 1) lhs))
       where
         plain : check_assignment (tree_of i t) ≡ behind (i + 1) t lhs
         plain = steps ∙ rw (← k_is, ← l-is, ← g-is, no) refl
 
-        pub assignment_stop : {why : Refusal} → f ≡ Refused why → refusal why ≡ check_assignment (tree_of i t)
+        pub assignment_stop : {why : Refusal} → f ≡ Err why → refusal why ≡ check_assignment (tree_of i t)
         unfolding counted
         assignment_stop {why} h = first_refused (check_assign (tree_of (i + 1) lhs)) _ why _ (rw h at f-is)
             ∙ sym plain
 
-        pub assignment_type : {m a : ℕ} {r : Answer} → f ≡ Leaves m → a ≡ span_of lhs
+        pub assignment_type : {m a : ℕ} {r : Answer} → f ≡ Ok m → a ≡ span_of lhs
             → r ≡ typed (node_of 0 t) (node_of 0 lhs) (forest (i + 1 + a / 24) (take (length lhs - a) (drop a lhs))) m
             → r ≡ check_assignment (tree_of i t)
         unfolding counted

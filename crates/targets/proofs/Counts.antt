@@ -4,17 +4,18 @@
 -- far, gives the whole answer. It holds at the start, each target keeps it or ends the loop with its refusal, and at
 -- the end nothing is left (`each_start`, `each_on`, `each_stop`, `each_end`). The count fits into a u32 because leaves
 -- are nodes (`leaves_tree`, by induction on the tree), and a table has at most 2,100 nodes. Assumes nothing.
+use Rattle.std.specs.Prelude.{Err, Ok, Result, ℕ}
 use mathlib.Core.Path.{◌≡◌, refl, sym, ap, ◌∙◌}
 use mathlib.Core.Bool.{Bool, true, false}
 use mathlib.Core.List.{List, [], ◌∷◌}
 use Prim.Native.Nat.{ℕ, ◌+◌, ◌-◌, ◌/◌, ◌<◌, ◌≤◌}
 use native.Mathlib.Nat.{add-zero, add_assoc}
 use native.Mathlib.Omega.{arith}
-use lib.ListN.{length, take, drop, length-take, length-drop}
+use lib.ListN.{length, take, drop}
 use Rattle.fields.specs.Choice.{if'}
 use Rattle.forest.specs.Forest.{node_of, span_of, kids_of, rest_of, Tree, node, Forest, none, ◌then◌, forest}
 use Rattle.forest.specs.Forest.{tree_of, count, count_tree}
-use Rattle.forest.proofs.Stretch.{forest_none, forest_tree, kids_part, rest_part, count_forest, length_kids}
+use Rattle.forest.proofs.Stretch.{forest_none, forest_tree, kids_part, count_forest, length_kids, length_rest}
 use Rattle.table.specs.Numbers.{invalid_lhs}
 use Rattle.table.specs.Check.{Within}
 use Rattle.table.specs.Answer.{Answer, accepted, and_then, refused_at, refusal}
@@ -23,8 +24,6 @@ use Rattle.table.proofs.Answers.{first_refused, first_accepted, same_values, aft
 use Rattle.targets.specs.Targets.{is_leaf, is_group, check_assign, check_each, leaves, leaves_each, counted}
 use Rattle.targets.specs.Targets.{counted_each}
 use Rattle.targets.specs.Jobs.{targeted}
-use Rattle.targets.specs.declared.Targeted.{Targeted}
-use Rattle.targets.specs.declared.Targeted.TheVariants.{Leaves, Refused}
 
 -- LAW: a tree has at most as many leaves as nodes
 leaves_choose : (l g : Bool) (m k : ℕ) → m ≤ k → if' l (λ _. 1) (λ _. if' g (λ _. m) (λ _. 0)) ≤ 1 + k
@@ -78,7 +77,8 @@ module _ {t : List ℕ} {node count₀ : ℕ} where
     unfolding counted_each check_each leaves_each
     each_end h = rw (forest_none at left h, add-zero) at s.same
 
-    module _ (big : 24 ≤ length left) (first : Targeted) (first_is : targeted first ≡ counted n (tree_of at left)) where
+    module _ (big : 24 ≤ length left) (first : Result ℕ Refusal)
+        (first_is : targeted first ≡ counted n (tree_of at left)) where
       step : counted_each count₀ (forest node t) ≡ and_then (check_assign (tree_of at left))
           (λ _. counted_each (n + leaves (tree_of at left)) (forest (at + span_of left / 24) (rest_of left)))
       unfolding counted_each check_each leaves_each
@@ -91,26 +91,28 @@ module _ {t : List ℕ} {node count₀ : ℕ} where
           ((n + (leaves (tree_of at left) + leaves_each (forest (at + span_of left / 24) (rest_of left)))) ∷ []))
           ∙ rw add_assoc refl
 
-      pub each_stop : {why : Refusal} → first ≡ Refused why → refusal why ≡ counted_each count₀ (forest node t)
+      pub each_stop : {why : Refusal} → first ≡ Err why → refusal why ≡ counted_each count₀ (forest node t)
       unfolding counted
       each_stop {why} h = first_refused (check_assign (tree_of at left)) _ why _ (rw h at first_is) ∙ sym step
 
-      pub each_on : {m e : ℕ} → first ≡ Leaves m → e ≡ span_of left
-          → Counting t node count₀ (take (length left - e) (drop e left)) (at + e / 24) m
+      pub each_on : {m next : ℕ} {after : List ℕ} → first ≡ Ok m → next ≡ at + span_of left / 24
+          → after ≡ rest_of left → Counting t node count₀ after next m
       unfolding counted count
-      each_on {m} {e} h e-is =
+      each_on {m} h next-is after-is =
           let values = same_values (check_assign (tree_of at left)) _ (rw h at first_is) in
           let m_is : m ≡ n + leaves (tree_of at left) = cc in
+          let less = length_rest left in
           record {
-            within = simp (length-take, length-drop) (omega (arith, s.within));
-            part = simp (length-take, length-drop) (omega (arith, s.part));
+            within = omega (arith, s.within, next-is, ap length after-is, less);
+            part = omega (arith, s.part, ap length after-is, less);
             few = omega (
               arith,
               s.few,
+              next-is,
               leaves_tree (tree_of at left),
               count_forest (at + 1) (kids_of left),
               length_kids left,
             );
-            same = rw (rest_part e left e-is, e-is, m_is)
+            same = rw (after-is, next-is, m_is)
                 (sym (step ∙ first_accepted (check_assign (tree_of at left)) _ _ (rw h at first_is)));
           }

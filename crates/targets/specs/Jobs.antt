@@ -1,17 +1,16 @@
 -- The target and assignment jobs, with their refusals in the order in which they are tested (docs/RULES.md), and the
 -- meaning of their answers. These are definitions.
-use Rattle.std.specs.Prelude.{List, [], ◌∷◌, ℕ}
+use Rattle.std.specs.Prelude.{List, [], ◌∷◌, ℕ, Err, Ok, Result}
+use Rattle.table.specs.declared.Refusal.{Refusal}
 use Rattle.table.specs.Answer.{Answer, accepted, refusal}
 use Rattle.table.specs.Check.{on_node}
 use Rattle.table.specs.declared.Wanted.TheVariants.{Assignment, Expression}
 use Rattle.targets.specs.Targets.{counted, check_assignment}
-use Rattle.targets.specs.declared.Targeted.{Targeted}
-use Rattle.targets.specs.declared.Targeted.TheVariants.{Leaves, Refused}
 
 -- the meaning of an answer of the two jobs: accepted with the number of leaves, or refused
-abbrev pub targeted : Targeted → Answer
-targeted (Leaves n) = accepted (n ∷ [])
-targeted (Refused r) = refusal r
+abbrev pub targeted : Result ℕ Refusal → Answer
+targeted (Ok n) = accepted (n ∷ [])
+targeted (Err r) = refusal r
 
 -- the target job: 30 (not a target), or the number of leaves
 abbrev pub target_of : List ℕ → List ℕ → ℕ → Answer

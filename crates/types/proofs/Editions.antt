@@ -4,6 +4,7 @@
 -- path, where the first answers 44 (`lifted_base`). All other rules join answers by order, and order keeps `Lifted`
 -- (`lifted_then`): if the whole answer is not 44, no step that was reached is 44. The induction is on the tree. Cite
 -- `job_lifted`, `job_accepted` and `job_never`. Assumes nothing.
+use Rattle.std.specs.Prelude.{Some}
 use mathlib.Core.Path.{◌≡◌, refl, sym, ap, ◌∙◌}
 use mathlib.Core.Bool.{Bool, true, false}
 use mathlib.Core.List as L
@@ -16,7 +17,6 @@ use Rattle.forest.specs.Forest.{Node, Tree, node, Forest, none, ◌then◌, tree
 use Rattle.soundness.specs.KindNumbers.{kind_identifier, kind_dot, kind_list}
 use Rattle.dialect.specs.declared.DialectTypes.{DialectTypes}
 use Rattle.dialect.specs.declared.Edition.TheVariants.{One, Two}
-use Rattle.dialect.specs.declared.EditionRead.TheVariants.{Known}
 use Rattle.dialect.specs.Rows.{permits_types}
 use Rattle.dialect.specs.Editions.{edition_of}
 use Rattle.table.specs.Numbers.{dot_in_type, expecting_path, dot_type_ban, invalid_type, types_disabled}
@@ -202,8 +202,8 @@ module _ (t names bytes : L.List ℕ) (i room : ℕ) where
   whole_lifted = go (given_of t names bytes) (given_before 10 t names bytes (omega arith))
     where
       go : (h : Handing) → Before 10 (in_given h (λ _. accepted L.[]))
-          → Lifted (in_rules (ruling h (Known One)) (λ d e. type_at e t names d.enable_types i room))
-          (in_rules (ruling h (Known Two)) (λ d e. type_at e t names d.enable_types i room))
+          → Lifted (in_rules (ruling h (Some One)) (λ d e. type_at e t names d.enable_types i room))
+          (in_rules (ruling h (Some Two)) (λ d e. type_at e t names d.enable_types i room))
       go (in_dialect d) b = at_lifted t names d.enable_types i room
       go (turned_away n vs) b = lifted_same (refused n vs) (λ e. omega (arith, b.0))
 

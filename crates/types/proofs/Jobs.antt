@@ -4,6 +4,7 @@
 -- `judge_here`). There is one law for each `return`, and no induction: each test of the code is the test of the
 -- definition. A job that passes 1 to 5 has a sound table (`given_sound`), so the node's subtree has a record and lies
 -- within 50,400 bytes (`at_long`, `at_within`). The proofs of the functions cite these laws. Assumes nothing.
+use Rattle.std.specs.Prelude.{Err, None, Ok, Option, Result, Some}
 use mathlib.Core.Path.{◌≡◌, refl, sym, ap, ◌∙◌}
 use mathlib.Core.Bool.{Bool, true, false}
 use mathlib.Core.List.{List, []}
@@ -17,18 +18,13 @@ use Rattle.dialect.specs.Bytes.{from_bytes}
 use Rattle.dialect.specs.declared.Dialect.{Dialect}
 use Rattle.dialect.specs.declared.DialectTypes.{DialectTypes}
 use Rattle.dialect.specs.declared.Edition.{Edition}
-use Rattle.dialect.specs.declared.EditionRead.{EditionRead}
 use Rattle.dialect.specs.Editions.{edition_of}
-use Rattle.dialect.specs.declared.Decoded.{Decoded}
-use Rattle.dialect.specs.declared.Decoded.TheVariants.{Valid, Invalid}
 use Rattle.table.specs.Numbers.{wrong_node, short_buffer, invalid_type, types_disabled}
 use Rattle.table.specs.Answer.{Answer, accepted, refused, and_then, refused_at, refusal}
 use Rattle.table.specs.Check.{check_of, in_dialect, handing, given_of, ruled, rules_of, node_fits, stretch_of}
 use Rattle.table.specs.Check.{is_headed, headed_of}
 use Rattle.table.proofs.Heads.{headed_leaf, headed_is}
 use Rattle.table.specs.declared.Refusal.{Refusal}
-use Rattle.table.specs.declared.Ruled.{Ruled}
-use Rattle.table.specs.declared.Ruled.TheVariants.{By, Refused}
 use Rattle.table.specs.declared.Wanted.TheVariants.{Expression}
 use Rattle.table.proofs.Checking.{check_values}
 use Rattle.table.proofs.Handed.{passed, stretch_within}
@@ -90,20 +86,22 @@ pub given_sound : (t names bytes : List ℕ) {d : Dialect} → in_dialect d ≡ 
 unfolding given_of
 given_sound t names bytes {d} e = go (check_of t names) (from_bytes bytes) refl e
   where
-    go : (a : Answer) (x : Decoded) → check_of t names ≡ a → in_dialect d ≡ handing a x → accepted [] ≡ check_of t names
-    go (accepted vs) (Valid v) a-is e = sym (a-is ∙ ap accepted (check_values t names a-is))
-    go (accepted vs) Invalid a-is e = never (cc)
+    go : (a : Answer) (x : Option Dialect) → check_of t names ≡ a → in_dialect d ≡ handing a x
+        → accepted [] ≡ check_of t names
+    go (accepted vs) (Some v) a-is e = sym (a-is ∙ ap accepted (check_values t names a-is))
+    go (accepted vs) None a-is e = never (cc)
     go (refused n vs) x a-is e = never (cc)
 
 -- the whole job, by the answer g to the table, dialect and edition
-module _ (t names bytes : List ℕ) (n : ℕ) {x : EditionRead} (x-is : x ≡ edition_of n) {g : Ruled}
+module _ (t names bytes : List ℕ) (n : ℕ) {x : Option Edition} (x-is : x ≡ edition_of n)
+    {g : Result (Dialect × Edition) Refusal}
     (g-is : ruled g ≡ rules_of t names bytes x) where
-  pub job_refused : (i room : ℕ) {why : Refusal} → g ≡ Refused why → refusal why ≡ type_shape_of t names bytes n i room
+  pub job_refused : (i room : ℕ) {why : Refusal} → g ≡ Err why → refusal why ≡ type_shape_of t names bytes n i room
   unfolding type_shape_of
   job_refused i room h = rw (← x-is, ← g-is, h) refl
 
-  module _ {d : Dialect} {edition : Edition} (h : g ≡ By d edition) where
-    pub job_type : (i room : ℕ) {r : Answer} → r ≡ type_at edition t names d.enable_types i room
+  module _ {p : Dialect × Edition} (h : g ≡ Ok p) where
+    pub job_type : (i room : ℕ) {r : Answer} → r ≡ type_at p.1 t names p.0.enable_types i room
         → r ≡ type_shape_of t names bytes n i room
     unfolding type_shape_of
     job_type i room r-is = r-is ∙ rw (← x-is, ← g-is, h) refl

@@ -1,7 +1,9 @@
 -- The contract of each public function leaves one answer: two answers that meet it are equal, for every input. A
 -- contract that states the answer itself needs no more than that (`coincide`); where it states the meaning of an
 -- answer, no two answers have the same meaning (`shaped_injective`, by cases). Assumes nothing.
-use mathlib.Core.Path.{◌≡◌, sym, ap}
+use Rattle.std.specs.Prelude.{Err, Ok, Result}
+use Rattle.table.specs.declared.Refusal.{Refusal}
+use mathlib.Core.Path.{◌≡◌, refl, sym, ap}
 use mathlib.Core.List.{List}
 use Prim.Native.Nat.{ℕ}
 use Rattle.fields.proofs.Coincide.{coincide, coincide_by}
@@ -16,25 +18,24 @@ use Rattle.types.specs.Jobs.{shaped, type_shape_of}
 use Rattle.types.specs.declared.Form.{Form}
 use Rattle.types.specs.declared.How.{How}
 use Rattle.types.specs.declared.Reads.{Reads}
-use Rattle.types.specs.declared.Shaped.{Shaped}
-use Rattle.types.specs.declared.Shaped.TheVariants.{Accepted, Refused}
 
 -- no two answers mean the same
-pub shaped_injective : (x y : Shaped) → shaped x ≡ shaped y → x ≡ y
-shaped_injective Accepted Accepted e = cc
-shaped_injective Accepted (Refused r) e = never_accepted r (sym e)
-shaped_injective (Refused q) Accepted e = never_accepted q e
-shaped_injective (Refused q) (Refused r) e = ap Refused (refusal_injective q r e)
+pub shaped_injective : (x y : Result (Unit {0}) Refusal) → shaped x ≡ shaped y → x ≡ y
+shaped_injective (Ok _) (Ok _) e = refl
+shaped_injective (Ok _) (Err r) e = never_accepted r (sym e)
+shaped_injective (Err q) (Ok _) e = never_accepted q e
+shaped_injective (Err q) (Err r) e = ap Err (refusal_injective q r e)
 
 -- of `judge`
-pub judge_one : (table names dialect : List ℕ) (edition node room : ℕ) {r s : Shaped}
+pub judge_one : (table names dialect : List ℕ) (edition node room : ℕ) {r s : Result (Unit {0}) Refusal}
     → shaped r ≡ type_shape_of table names dialect edition node room
     → shaped s ≡ type_shape_of table names dialect edition node room
     → r ≡ s
 judge_one table names dialect edition node room = coincide_by shaped shaped_injective
 
 -- of `judge_type`
-pub judge_type_one : (names : List ℕ) (d : Dialect) (edition : Edition) (t : List ℕ) (node : ℕ) {r s : Shaped}
+pub judge_type_one : (names : List ℕ) (d : Dialect) (edition : Edition) (t : List ℕ) (node : ℕ)
+    {r s : Result (Unit {0}) Refusal}
     → shaped r ≡ dialect_check_type edition names d.enable_types (tree_of node (headed_of node t))
     → shaped s ≡ dialect_check_type edition names d.enable_types (tree_of node (headed_of node t)) → r ≡ s
 judge_type_one names d edition t node = coincide_by shaped shaped_injective

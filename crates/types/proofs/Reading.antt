@@ -5,6 +5,7 @@
 -- by the child's kind, where the definition calls the argument rule for every argument and reads as a type what is no
 -- List; both give the same (`by_rule`). What is left is smaller than the node's subtree (`part`), so each call is on a
 -- smaller tree (`falls`). shapes uses `first_and_rest`, `by_rule` and `falls` for its own walk. Assumes nothing.
+use Rattle.std.specs.Prelude.{Err, Ok, Result}
 use mathlib.Core.Path.{◌≡◌, refl, sym, ap, ◌∙◌}
 use mathlib.Core.Bool.{Bool, true, false}
 use mathlib.Core.List.{List, []}
@@ -17,7 +18,7 @@ use Rattle.fields.proofs.Basics.{never}
 use Rattle.fields.specs.Choice.{if'}
 use Rattle.dialect.specs.declared.Edition.{Edition}
 use Rattle.forest.specs.Forest.{node_of, span_of, kids_of, rest_of, Tree, Forest, ◌then◌, forest, tree_of}
-use Rattle.forest.proofs.Stretch.{forest_none, forest_tree, kids_part, rest_part, length_kids, length_rest}
+use Rattle.forest.proofs.Stretch.{forest_none, forest_tree, kids_part, length_kids, length_rest}
 use Rattle.soundness.specs.KindNumbers.{kind_list}
 use Rattle.table.specs.Answer.{Answer, accepted, and_then, refusal}
 use Rattle.table.specs.declared.Refusal.{Refusal}
@@ -28,25 +29,24 @@ use Rattle.types.specs.declared.Form.{Form}
 use Rattle.types.specs.declared.How.{How}
 use Rattle.types.specs.declared.How.TheVariants.{Unread, AsType, AsArgument}
 use Rattle.types.specs.declared.Reads.{Reads}
-use Rattle.types.specs.declared.Shaped.{Shaped}
-use Rattle.types.specs.declared.Shaped.TheVariants.{Accepted, Refused}
 
 -- LAW: reading siblings is reading the first and then the others; stated once for the walk that judges and the walk
 -- that writes
 pub first_and_rest : {A : Type 0} (each : Reads → Forest → A) (child : How → Tree → A) (join : A → A → A)
     → ((reads : Reads) (t : Tree) (ts : Forest)
     → each reads (t then ts) ≡ join (child reads.first t) (each (reads_as reads.others reads.others) ts))
-    → (reads : Reads) (i : ℕ) (bs : List ℕ) → 24 ≤ length bs → {e : ℕ} → e ≡ span_of bs
+    → (reads : Reads) (i : ℕ) (bs : List ℕ) → 24 ≤ length bs → {next : ℕ} {after : List ℕ}
+    → next ≡ i + span_of bs / 24 → after ≡ rest_of bs
     → each reads (forest i bs) ≡ join (child reads.first (tree_of i bs))
-    (each (reads_as reads.others reads.others) (forest (i + e / 24) (take (length bs - e) (drop e bs))))
-first_and_rest each child join then_is reads i bs big {e} e-is =
-    rw (rest_part e bs e-is, e-is) (ap (each reads) (forest_tree i bs big)
+    (each (reads_as reads.others reads.others) (forest next after))
+first_and_rest each child join then_is reads i bs big next-is after-is =
+    rw (after-is, next-is) (ap (each reads) (forest_tree i bs big)
     ∙ then_is reads (tree_of i bs) (forest (i + span_of bs / 24) (rest_of bs)))
 
 -- the siblings after the first end where all of them end
-rest_within : (i : ℕ) {e : ℕ} (bs : List ℕ) → 24 * i + length bs ≤ 50400 → e ≡ span_of bs
-    → 24 * (i + e / 24) + length (take (length bs - e) (drop e bs)) ≤ 50400
-rest_within i {e} bs h e-is = rw (rest_part e bs e-is) (omega (arith, length_rest bs))
+rest_within : (i : ℕ) (bs : List ℕ) → 24 * i + length bs ≤ 50400
+    → 24 * (i + span_of bs / 24) + length (rest_of bs) ≤ 50400
+rest_within i bs h = omega (arith, length_rest bs)
 
 -- LAW: the rule that the caller chooses by the child's kind gives the same as the definition; stated once for both
 -- walks
@@ -122,14 +122,14 @@ pub record Judging (edition : Edition) (names : List ℕ) (others : How) (t : Li
   pub same : unpack_each (reads_as how others) edition names (forest at left) ≡ whole
 
 -- the type at the start of t: the test at its node, then its children
-module _ (edition : Edition) (names : List ℕ) (i : ℕ) (t : List ℕ) (here : Shaped)
+module _ (edition : Edition) (names : List ℕ) (i : ℕ) (t : List ℕ) (here : Result (Unit {0}) Refusal)
     (here-is : shaped here ≡ at_node edition names (form_of (node_of 0 t).kind (node_of 0 t).detail) (node_of i t)
     (forest (i + 1) (kids_of t))) where
-  pub unpack_stop : {why : Refusal} → here ≡ Refused why → refusal why ≡ «unpack» edition names (tree_of i t)
+  pub unpack_stop : {why : Refusal} → here ≡ Err why → refusal why ≡ «unpack» edition names (tree_of i t)
   unfolding «unpack»
   unpack_stop h = rw (← here-is, h) refl
 
-  pub unpack_start : 24 ≤ length t → 24 * i + length t ≤ 50400 → here ≡ Accepted
+  pub unpack_start : 24 ≤ length t → 24 * i + length t ≤ 50400 → here ≡ Ok tt
       → {f : Form} → f ≡ form_of (node_of 0 t).kind (node_of 0 t).detail → {reads : Reads} → reads ≡ reads_of f
       → {e : ℕ} → e ≡ span_of t
       → Judging edition names reads.others t («unpack» edition names (tree_of i t)) (take (e - 24) (drop 24 t))
@@ -170,30 +170,31 @@ module _ {edition : Edition} {names : List ℕ} {others : How} {t : List ℕ} {w
   pub each_falls : span_of left < span_of t
   each_falls = falls t left j.part
 
-  module _ (big : 24 ≤ length left) (child : Shaped)
+  module _ (big : 24 ≤ length left) (child : Result (Unit {0}) Refusal)
       (child_is : shaped child ≡ unpack_child how edition names (tree_of at left)) where
-    step : {e : ℕ} → e ≡ span_of left → unpack_each (reads_as how others) edition names (forest at left)
-        ≡ and_then (shaped child) (λ _. unpack_each (reads_as others others) edition names
-        (forest (at + e / 24) (take (length left - e) (drop e left))))
+    step : {next : ℕ} {after : List ℕ} → next ≡ at + span_of left / 24 → after ≡ rest_of left
+        → unpack_each (reads_as how others) edition names (forest at left)
+        ≡ and_then (shaped child) (λ _. unpack_each (reads_as others others) edition names (forest next after))
     unfolding «unpack»
-    step e-is = first_and_rest (λ z ts. unpack_each z edition names ts) (λ h x. unpack_child h edition names x)
-        (λ x y. and_then x (λ _. y)) (λ z x ts. refl) (reads_as how others) at left big e-is
+    step next-is after-is = first_and_rest (λ z ts. unpack_each z edition names ts)
+        (λ h x. unpack_child h edition names x) (λ x y. and_then x (λ _. y)) (λ z x ts. refl)
+        (reads_as how others) at left big next-is after-is
         ∙ rw child_is refl
 
-    pub each_stop : {why : Refusal} → child ≡ Refused why → refusal why ≡ whole
-    each_stop h = sym (sym j.same ∙ step refl ∙ rw h refl)
+    pub each_stop : {why : Refusal} → child ≡ Err why → refusal why ≡ whole
+    each_stop h = sym (sym j.same ∙ step refl refl ∙ rw h refl)
 
-    pub each_on : child ≡ Accepted → {e : ℕ} → e ≡ span_of left
-        → Judging edition names others t whole (take (length left - e) (drop e left)) (at + e / 24) others
-    each_on h {e} e-is = record {
-      within = rest_within at left j.within e-is;
-      part = rw (rest_part e left e-is) (omega (arith, length_rest left, j.part));
-      same = sym (sym j.same ∙ step e-is ∙ rw h refl);
+    pub each_on : child ≡ Ok tt → {next : ℕ} {after : List ℕ} → next ≡ at + span_of left / 24
+        → after ≡ rest_of left → Judging edition names others t whole after next others
+    each_on h next-is after-is = record {
+      within = rw (next-is, after-is) (rest_within at left j.within);
+      part = rw after-is (omega (arith, length_rest left, j.part));
+      same = sym (sym j.same ∙ step next-is after-is ∙ rw h refl);
     }
 
   -- a child that is not read
   pub each_skip : 24 ≤ length left → {k : ℕ} → k ≡ (node_of 0 left).kind → {rule : How} → rule ≡ rule_of how k
-      → rule ≡ Unread → {e : ℕ} → e ≡ span_of left
-      → Judging edition names others t whole (take (length left - e) (drop e left)) (at + e / 24) others
-  each_skip big k_is rule-is h e-is =
-      each_on big Accepted (child_unread edition names at left how k_is rule-is h) refl e-is
+      → rule ≡ Unread → {next : ℕ} {after : List ℕ} → next ≡ at + span_of left / 24 → after ≡ rest_of left
+      → Judging edition names others t whole after next others
+  each_skip big k_is rule-is h next-is after-is =
+      each_on big (Ok tt) (child_unread edition names at left how k_is rule-is h) refl next-is after-is

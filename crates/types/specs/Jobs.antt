@@ -1,6 +1,7 @@
 -- The answer of the type job, with its refusals in the order in which they are tested (docs/RULES.md), and the meaning
 -- of answers. These are definitions.
-use Rattle.std.specs.Prelude.{List, [], ℕ, ◌/◌, leb, length}
+use Rattle.std.specs.Prelude.{List, [], ℕ, ◌/◌, leb, length, Err, Ok, Result}
+use Rattle.table.specs.declared.Refusal.{Refusal}
 use Rattle.fields.specs.Choice.{if'}
 use Rattle.forest.specs.Forest.{record_bytes, tree_of}
 use Rattle.dialect.specs.declared.DialectTypes.{DialectTypes}
@@ -11,13 +12,11 @@ use Rattle.table.specs.Answer.{Answer, accepted, refused, and_then, refusal}
 use Rattle.table.specs.Check.{rules_of, in_rules, node_check, stretch_of}
 use Rattle.table.specs.declared.Wanted.TheVariants.{Expression}
 use Rattle.types.specs.Types.{dialect_check_type}
-use Rattle.types.specs.declared.Shaped.{Shaped}
-use Rattle.types.specs.declared.Shaped.TheVariants.{Accepted, Refused}
 
 -- the meaning of an answer of the type job: accepted, or refused
-abbrev pub shaped : Shaped → Answer
-shaped Accepted = accepted []
-shaped (Refused r) = refusal r
+abbrev pub shaped : Result (Unit {0}) Refusal → Answer
+shaped (Ok _) = accepted []
+shaped (Err r) = refusal r
 
 -- 7 unless the buffer has a byte for each node of the type's subtree
 abbrev pub room_check : ℕ → List ℕ → Answer

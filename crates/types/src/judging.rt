@@ -14,14 +14,14 @@ ghost use Rattle.types.specs.Types.{index_base, index2_base, list_length, at_nod
 ghost use Rattle.types.specs.Types.{«unpack», unpack_argument};
 ghost use Rattle.types.specs.Jobs.{shaped};
 
-use crate::{Form, How, Shaped, forms, paths};
+use crate::{Form, How, forms, paths};
 use dialect::Edition;
-use forest::RECORD;
+use forest::{Nodes, RECORD};
 use soundness::kinds;
-use table::numbers;
+use table::{Refusal, numbers};
 
 // The base of the Index at the start of t.
-fn index_base(t: &[u8], node: usize) -> Shaped
+fn index_base(t: &[u8], node: usize) -> Result<(), Refusal>
     requires { Headed node t.now }
     ensures { shaped result ≡
         index_base (node_of node t.now) (forest (node + 1) (kids_of t.now)) }
@@ -29,16 +29,16 @@ fn index_base(t: &[u8], node: usize) -> Shaped
     let e = forest::span(t);
     let k = &t[RECORD..e];
     if k.len() < RECORD {
-        return Shaped::Refused(table::refused_at(numbers::INVALID_TYPE, node as u32, t));
+        return Err(table::refused_at(numbers::INVALID_TYPE, node as u32, t));
     }
     if forest::kind(k) != kinds::IDENTIFIER {
-        return Shaped::Refused(table::refused_at(numbers::INVALID_TYPE, node as u32, t));
+        return Err(table::refused_at(numbers::INVALID_TYPE, node as u32, t));
     }
-    Shaped::Accepted
+    Ok(())
 }
 
 // The base of the Index2 at the start of t.
-fn index2_base(edition: Edition, names: &[u8], t: &[u8], node: usize) -> Shaped
+fn index2_base(edition: Edition, names: &[u8], t: &[u8], node: usize) -> Result<(), Refusal>
     requires { Headed node t.now }
     ensures { shaped result ≡
         index2_base edition names.now (forest (node + 1) (kids_of t.now)) }
@@ -46,13 +46,13 @@ fn index2_base(edition: Edition, names: &[u8], t: &[u8], node: usize) -> Shaped
     let e = forest::span(t);
     let k = &t[RECORD..e];
     if k.len() < RECORD {
-        return Shaped::Accepted;
+        return Ok(());
     }
     paths::unpack_path(edition, names, k, node + 1)
 }
 
 // The number of items of the List at the start of t: a type has two or more.
-fn list_length(t: &[u8], node: usize) -> Shaped
+fn list_length(t: &[u8], node: usize) -> Result<(), Refusal>
     requires { Headed node t.now }
     ensures { shaped result ≡
         list_length (node_of node t.now) (forest (node + 1) (kids_of t.now)) }
@@ -60,17 +60,17 @@ fn list_length(t: &[u8], node: usize) -> Shaped
     let e = forest::span(t);
     let k = &t[RECORD..e];
     if k.len() < RECORD {
-        return Shaped::Refused(table::refused_at(numbers::EMPTY_LIST_IN_TYPE, node as u32, t));
+        return Err(table::refused_at(numbers::EMPTY_LIST_IN_TYPE, node as u32, t));
     }
     let a = forest::span(k);
     if k.len() < a + RECORD {
-        return Shaped::Refused(table::refused_at(numbers::INVALID_TYPE, node as u32, t));
+        return Err(table::refused_at(numbers::INVALID_TYPE, node as u32, t));
     }
-    Shaped::Accepted
+    Ok(())
 }
 
 // The test at the first node of t, before its children are read.
-fn at_node(edition: Edition, names: &[u8], t: &[u8], node: usize) -> Shaped
+fn at_node(edition: Edition, names: &[u8], t: &[u8], node: usize) -> Result<(), Refusal>
     requires { Headed node t.now }
     ensures { shaped result ≡
         at_node edition names.now
@@ -79,86 +79,59 @@ fn at_node(edition: Edition, names: &[u8], t: &[u8], node: usize) -> Shaped
 {
     let form = forms::form(t);
     match form {
-        Form::Ellipsis => Shaped::Accepted,
+        Form::Ellipsis => Ok(()),
         Form::Path => paths::unpack_path(edition, names, t, node),
         Form::Index => index_base(t, node),
         Form::Index2 => index2_base(edition, names, t, node),
         Form::List => list_length(t, node),
-        Form::Union => Shaped::Accepted,
-        Form::Tuple => Shaped::Accepted,
-        Form::Other => Shaped::Refused(table::refused_at(numbers::INVALID_TYPE, node as u32, t)),
+        Form::Union => Ok(()),
+        Form::Tuple => Ok(()),
+        Form::Other => Err(table::refused_at(numbers::INVALID_TYPE, node as u32, t)),
     }
 }
 
 // The type at the start of t. A child that is read is a List of arguments or a type. This function decides which, and
 // calls the rule on the children only, so that the subtree is smaller at each call.
 #[cycle(unpack_unpack_argument)]
-pub(crate) fn unpack(edition: Edition, names: &[u8], t: &[u8], node: usize) -> Shaped
+pub(crate) fn unpack(edition: Edition, names: &[u8], t: &[u8], node: usize) -> Result<(), Refusal>
     requires { Headed node t.now }
     ensures { shaped result ≡ «unpack» edition names.now (tree_of node t.now) }
 {
-    let here = at_node(edition, names, t, node);
-    if let Shaped::Refused(why) = here {
-        return Shaped::Refused(why);
-    }
+    at_node(edition, names, t, node)?;
     let reads = forms::reads_of(forms::form(t));
     let e = forest::span(t);
-    let mut left = &t[RECORD..e];
-    let mut at = node + 1;
     let mut how = reads.first;
-    while RECORD <= left.len() {
-        let child = left;
-        let place = at;
+    for (place, child) in (Nodes {
+        at: node + 1,
+        left: &t[RECORD..e],
+    }) {
         let rule = forms::rule_of(how, forest::kind(child));
-        let child_bytes = forest::span(child);
-        left = &child[child_bytes..];
-        at += child_bytes / RECORD;
         how = reads.others;
         match rule {
             How::Unread => {}
-            How::AsType => {
-                let judged = unpack(edition, names, child, place);
-                if let Shaped::Refused(why) = judged {
-                    return Shaped::Refused(why);
-                }
-            }
-            How::AsArgument => {
-                let judged = unpack_argument(edition, names, child, place);
-                if let Shaped::Refused(why) = judged {
-                    return Shaped::Refused(why);
-                }
-            }
+            How::AsType => unpack(edition, names, child, place)?,
+            How::AsArgument => unpack_argument(edition, names, child, place)?,
         }
     }
-    Shaped::Accepted
+    Ok(())
 }
 
 // The List of arguments at the start of t. An item is a List of arguments again, or a type.
 #[cycle(unpack_unpack_argument)]
-fn unpack_argument(edition: Edition, names: &[u8], t: &[u8], node: usize) -> Shaped
+fn unpack_argument(edition: Edition, names: &[u8], t: &[u8], node: usize) -> Result<(), Refusal>
     requires { Headed node t.now × ((node_of 0 t.now).kind ≡ kind_list) }
     ensures { shaped result ≡ unpack_argument edition names.now (tree_of node t.now) }
 {
     let e = forest::span(t);
-    let mut left = &t[RECORD..e];
-    let mut at = node + 1;
-    while RECORD <= left.len() {
-        let item = left;
-        let place = at;
-        let item_bytes = forest::span(item);
-        left = &item[item_bytes..];
-        at += item_bytes / RECORD;
+    for (place, item) in (Nodes {
+        at: node + 1,
+        left: &t[RECORD..e],
+    }) {
         if forest::kind(item) == kinds::LIST {
-            let judged = unpack_argument(edition, names, item, place);
-            if let Shaped::Refused(why) = judged {
-                return Shaped::Refused(why);
-            }
+            unpack_argument(edition, names, item, place)?;
         } else {
-            let judged = unpack(edition, names, item, place);
-            if let Shaped::Refused(why) = judged {
-                return Shaped::Refused(why);
-            }
+            unpack(edition, names, item, place)?;
         }
     }
-    Shaped::Accepted
+    Ok(())
 }

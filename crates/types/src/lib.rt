@@ -21,7 +21,7 @@ ghost use Rattle.types.specs.Jobs.{shaped, type_at, type_shape_of};
 
 use dialect::{Dialect, DialectTypes, Edition};
 use forest::RECORD;
-use table::{Refusal, Ruled, Wanted, numbers};
+use table::{Refusal, Wanted, numbers};
 
 // The forms of a type, by the kind of its node.
 #[derive(Clone, Copy)]
@@ -51,13 +51,6 @@ pub struct Reads {
     pub others: How,
 }
 
-// The answer of the type job: accepted, or the refusal.
-#[derive(Clone, Copy)]
-pub enum Shaped {
-    Accepted,
-    Refused(Refusal),
-}
-
 // Whether a node is a type in a dialect and an edition, which is given by its number; room is the size of the buffer
 // for the shapes.
 pub fn judge(
@@ -67,23 +60,23 @@ pub fn judge(
     edition: u32,
     node: usize,
     room: usize,
-) -> Shaped
+) -> Result<(), Refusal>
     ensures { shaped result ≡
         type_shape_of table.now names.now dialect.now edition node room }
 {
-    let entered = table::enter_rules(table, names, dialect, dialect::edition_of(edition));
-    match entered {
-        Ruled::By { dialect, edition } => {
-            let types = dialect.enable_types;
-            type_at(edition, table, names, types, node, room)
-        }
-        Ruled::Refused(why) => Shaped::Refused(why),
-    }
+    let (d, e) = table::enter_rules(table, names, dialect, dialect::edition_of(edition))?;
+    type_at(e, table, names, d.enable_types, node, room)
 }
 
 // The type at the start of t, in a dialect and an edition, for callers that have checked the table. The first record of
 // t has the index node. Any bytes are accepted; if they are not part of a table, none is read.
-pub fn judge_type(names: &[u8], d: Dialect, edition: Edition, t: &[u8], node: u32) -> Shaped
+pub fn judge_type(
+    names: &[u8],
+    d: Dialect,
+    edition: Edition,
+    t: &[u8],
+    node: u32,
+) -> Result<(), Refusal>
     ensures { shaped result ≡ dialect_check_type edition names.now d.enable_types
         (tree_of node (headed_of node t.now)) }
 {
@@ -95,14 +88,14 @@ pub fn judge_type(names: &[u8], d: Dialect, edition: Edition, t: &[u8], node: u3
 }
 
 // The refusal where no type can be read: 45, else 40, at the node.
-fn no_type(types: DialectTypes, none: &[u8], node: u32) -> Shaped
+fn no_type(types: DialectTypes, none: &[u8], node: u32) -> Result<(), Refusal>
     ensures { shaped result ≡ and_then (types_check types (node_of node none.now))
         (λ _. refused_at invalid_type (node_of node none.now)) }
 {
     if !dialect::permits_types(types) {
-        return Shaped::Refused(table::refused_at(numbers::TYPES_DISABLED, node, none));
+        return Err(table::refused_at(numbers::TYPES_DISABLED, node, none));
     }
-    Shaped::Refused(table::refused_at(numbers::INVALID_TYPE, node, none))
+    Err(table::refused_at(numbers::INVALID_TYPE, node, none))
 }
 
 // The type job on a node of a sound table, in an edition and a dialect with these types.
@@ -113,16 +106,16 @@ fn type_at(
     types: DialectTypes,
     node: usize,
     room: usize,
-) -> Shaped
+) -> Result<(), Refusal>
     requires { accepted [] ≡ check_of table.now names.now }
     ensures { shaped result ≡ type_at edition table.now names.now types node room }
 {
     if !table::node_fits(table, node, Wanted::Expression) {
-        return Shaped::Refused(Refusal::Bare(numbers::WRONG_NODE));
+        return Err(Refusal::Bare(numbers::WRONG_NODE));
     }
     let t = table::stretch(table, node);
     if room < t.len() / RECORD {
-        return Shaped::Refused(Refusal::Bare(numbers::SHORT_BUFFER));
+        return Err(Refusal::Bare(numbers::SHORT_BUFFER));
     }
     dialect_check_type(edition, names, types, t, node)
 }
@@ -134,13 +127,13 @@ fn dialect_check_type(
     types: DialectTypes,
     t: &[u8],
     node: usize,
-) -> Shaped
+) -> Result<(), Refusal>
     requires { Headed node t.now }
     ensures { shaped result ≡
         dialect_check_type edition names.now types (tree_of node t.now) }
 {
     if !dialect::permits_types(types) {
-        return Shaped::Refused(table::refused_at(numbers::TYPES_DISABLED, node as u32, t));
+        return Err(table::refused_at(numbers::TYPES_DISABLED, node as u32, t));
     }
     judging::unpack(edition, names, t, node)
 }

@@ -10,11 +10,10 @@ ghost use Rattle.table.specs.Check.{Within, Headed};
 ghost use Rattle.types.specs.Paths.{banned, object_path, unpack_path};
 ghost use Rattle.types.specs.Jobs.{shaped};
 
-use crate::Shaped;
 use dialect::Edition;
 use forest::RECORD;
 use soundness::kinds;
-use table::numbers;
+use table::{Refusal, numbers};
 
 // The field `type`, which may not end a path in the first edition.
 const TYPE: [u8; 4] = [116, 121, 112, 101];
@@ -33,38 +32,43 @@ fn is_banned(edition: Edition, names: &[u8], t: &[u8]) -> bool
 }
 
 // The path at the start of t.
-pub(crate) fn unpack_path(edition: Edition, names: &[u8], t: &[u8], node: usize) -> Shaped
+pub(crate) fn unpack_path(
+    edition: Edition,
+    names: &[u8],
+    t: &[u8],
+    node: usize,
+) -> Result<(), Refusal>
     requires { Headed node t.now }
     ensures { shaped result ≡ unpack_path edition names.now (tree_of node t.now) }
 {
     let kind = forest::kind(t);
     if kind == kinds::IDENTIFIER {
-        return Shaped::Accepted;
+        return Ok(());
     }
     if kind != kinds::DOT {
-        return Shaped::Refused(table::refused_at(numbers::EXPECTING_PATH, node as u32, t));
+        return Err(table::refused_at(numbers::EXPECTING_PATH, node as u32, t));
     }
     let e = forest::span(t);
     object_path(is_banned(edition, names, t), &t[RECORD..e], node + 1)
 }
 
 // The object of a Dot; ban says whether its path is banned.
-fn object_path(ban: bool, t: &[u8], node: usize) -> Shaped
+fn object_path(ban: bool, t: &[u8], node: usize) -> Result<(), Refusal>
     requires { Within node t.now }
     ensures { shaped result ≡ object_path ban (forest node t.now) }
 {
     if t.len() < RECORD {
-        return Shaped::Accepted;
+        return Ok(());
     }
     let kind = forest::kind(t);
     if kind == kinds::IDENTIFIER {
         if ban {
-            return Shaped::Refused(table::refused_at(numbers::DOT_TYPE_BAN, node as u32, t));
+            return Err(table::refused_at(numbers::DOT_TYPE_BAN, node as u32, t));
         }
-        return Shaped::Accepted;
+        return Ok(());
     }
     if kind != kinds::DOT {
-        return Shaped::Refused(table::refused_at(numbers::DOT_IN_TYPE, node as u32, t));
+        return Err(table::refused_at(numbers::DOT_IN_TYPE, node as u32, t));
     }
     let e = forest::span(t);
     object_path(ban, &t[RECORD..e], node + 1)

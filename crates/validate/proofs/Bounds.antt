@@ -3,6 +3,9 @@
 -- parameter that is a mark. The induction is on the forest, over statements and expressions together (`forest_few`),
 -- because a parameter pays for its mark whoever owns the list. Below it the same bounds are in bytes, as the code's
 -- sums need them (`stmts_few` to `list_few`). Assumes nothing.
+use Rattle.std.specs.Prelude.{Err, Ok, Result}
+use Rattle.deflist.specs.declared.Fault.{Fault}
+use Rattle.deflist.specs.declared.Counts.{Counts}
 use mathlib.Core.Path.{◌≡◌, refl}
 use mathlib.Core.Bool.{Bool, true, false}
 use mathlib.Core.List.{List, [], ◌∷◌}
@@ -22,13 +25,11 @@ use Rattle.soundness.specs.Kinds.{statement, expression, parameter, kind_in as r
 use Rattle.deflist.specs.Written.{Param, node_in, kind_in, param_of, params_in}
 use Rattle.deflist.specs.Limited.{limited}
 use Rattle.deflist.specs.Told.{told}
-use Rattle.deflist.specs.declared.Judged.{Judged}
-use Rattle.deflist.specs.declared.Judged.TheVariants.{Accepted, Refused}
 use Rattle.errors.proofs.Storing.{unless_few}
 use Rattle.deflist.specs.declared.Kind.{Kind}
 use Rattle.deflist.specs.declared.Kind.TheVariants.{Normal, NoArgs, Slash, Args, KwArgs}
 use Rattle.deflist.proofs.Theorems.{list_short}
-use Rattle.errors.specs.declared.Err.{Err}
+use Rattle.errors.specs.declared.Finding.{Finding}
 use Rattle.errors.specs.Errors.{err_at}
 use Rattle.validate.specs.Params.{mark_error, every_mark, marks, permits, unpack_error, validate_params}
 use Rattle.validate.specs.Params.{with_params}
@@ -45,7 +46,7 @@ use Rattle.validate.specs.declared.Arm.TheVariants.{Def, Load, Told, Below}
 marks_few : (d : Dialect) (m : Mark) (ps : List Param) → length (marks d m ps) ≤ length (every_mark m ps)
 marks_few d m ps = go (permits d m)
   where
-    go : (b : Bool) → length (if' {A = List Err} b (λ _. []) (λ _. every_mark m ps)) ≤ length (every_mark m ps)
+    go : (b : Bool) → length (if' {A = List Finding} b (λ _. []) (λ _. every_mark m ps)) ≤ length (every_mark m ps)
     go true = omega arith
     go false = omega arith
 
@@ -66,9 +67,9 @@ pub sort_few : (m : Mark) (ps : List Param) → length (every_mark m ps) ≤ len
 sort_few Star ps = omega (arith, every_few ps)
 sort_few SlashMark ps = omega (arith, every_few ps)
 
-pub error_few : (j : Judged) → length (unpack_error j) ≤ 1
-error_few (Accepted c) = omega arith
-error_few (Refused f) = omega arith
+pub error_few : (j : Result Counts Fault) → length (unpack_error j) ≤ 1
+error_few (Ok c) = omega arith
+error_few (Err f) = omega arith
 
 -- a parameter list: no more than its parameters, and one
 pub params_few : (d : Dialect) (owner : Node) (ps : List Param)
@@ -89,7 +90,8 @@ with_few d names b n r ks =
     simp length-append (omega (arith, unless_few b (err_at n r), params_few d r (params_in names ks)))
 
 -- a statement by itself: two, and its parameters, and what is below it
-arm_few : (d : Dialect) (names : List ℕ) (s : Standing) (r : Node) (ks : Forest) (visit : Standing → List Err) (n : ℕ)
+arm_few : (d : Dialect) (names : List ℕ) (s : Standing) (r : Node) (ks : Forest) (visit : Standing → List Finding)
+    (n : ℕ)
     → ((p : Standing) → length (params_in names ks) + length (visit p) ≤ n) → (a : Arm)
     → length (on_arm d names s r ks visit a) ≤ 2 + n
 arm_few d names s r ks visit n h Def = omega (
@@ -110,7 +112,7 @@ arm_few d names s r ks visit n h (Below p) = omega (arith, h p)
 abbrev own_most : ℕ → ℕ → ℕ
 own_most k n = if' (eqb (class_of k) expression) (λ _. n) (λ _. 0)
 
-kind_few : (k j n : ℕ) (x y : Unit {0} → List Err) → class_of j ≡ expression → length (x tt) ≤ n
+kind_few : (k j n : ℕ) (x y : Unit {0} → List Finding) → class_of j ≡ expression → length (x tt) ≤ n
     → length (y tt) ≤ own_most k n → length (if' (eqb k j) x y) ≤ own_most k n
 kind_few k j n x y j-is p q = go (eqb k j) refl
   where
@@ -158,7 +160,7 @@ module _ (d : Dialect) (names : List ℕ) where
   unfolding f expr
   tree_step r ks h s = simp length-append (go (class_of r.kind) (own_few d names r ks))
     where
-      arm : List Err
+      arm : List Finding
       arm = on_arm d names s r ks (λ p. visit_stmt d names p ks) (arm_of d s r.kind)
 
       own : length arm ≤ 2 + (2 * count ks - length (visit_expr d names ks))

@@ -2,6 +2,7 @@
 -- has passed the check that is all (`pass_is`), so that it counts and stores what the job's definition says. There is
 -- one law for each return: a refusal changes no word (`job_refused`), and a total is the number of errors
 -- (`job_total`). Assumes nothing.
+use Rattle.std.specs.Prelude.{Err, Ok, Result}
 use mathlib.Core.Path.{◌≡◌, refl, sym}
 use mathlib.Core.List.{List, [], ◌∷◌}
 use Prim.Native.Nat.{ℕ, ◌*◌, ◌≤◌}
@@ -13,8 +14,6 @@ use Rattle.forest.proofs.Stretch.{count_forest}
 use Rattle.table.specs.Answer.{Answer, accepted, refusal}
 use Rattle.table.specs.Check.{given, given_of}
 use Rattle.table.specs.declared.Refusal.{Refusal}
-use Rattle.table.specs.declared.Given.{Given}
-use Rattle.table.specs.declared.Given.TheVariants.{In, Refused as Away}
 use Rattle.table.proofs.Heads.{all_within}
 use Rattle.table.proofs.Entering.{given_known, away_is, in_is}
 use Rattle.errors.specs.Errors.{kept, stored, Stores}
@@ -47,12 +46,12 @@ pass_is d names t h = rw (← all_within t h) refl
 abbrev pub Promised : List ℕ → List ℕ → List ℕ → List ℕ → Answer → List ℕ → Type 0
 Promised t names bytes xs r ys = (r ≡ module_of t names bytes) × (ys ≡ errors_after t names bytes xs)
 
-module _ (t names bytes xs : List ℕ) {g : Given} (g-is : given g ≡ given_of t names bytes) where
-  pub job_refused : {why : Refusal} → g ≡ Away why → Promised t names bytes xs (refusal why) xs
+module _ (t names bytes xs : List ℕ) {g : Result Dialect Refusal} (g-is : given g ≡ given_of t names bytes) where
+  pub job_refused : {why : Refusal} → g ≡ Err why → Promised t names bytes xs (refusal why) xs
   unfolding errors_of
   job_refused h = let told = away_is t names bytes g-is h in (rw told refl, rw told (sym (stored_none Module xs)))
 
-  pub job_total : {d : Dialect} {n : ℕ} {ys : List ℕ} → g ≡ In d → n ≡ length (pass_errors d names t)
+  pub job_total : {d : Dialect} {n : ℕ} {ys : List ℕ} → g ≡ Ok d → n ≡ length (pass_errors d names t)
       → ys ≡ stored Module (pass_errors d names t) xs → Promised t names bytes xs (accepted (n ∷ [])) ys
   unfolding errors_of
   job_total {d} h count words =

@@ -3,7 +3,8 @@
 -- the marks of what is left come next (`Marking`, `mark_on`). Which records are marks does not depend on names
 -- (`same_marks`), so code reads none there. `params_all` joins the three checks, each lent the words that the one
 -- before it leaves free, and `with_all` puts the error of the def or lambda in front. Assumes nothing.
-use mathlib.Core.Path.{◌≡◌, refl, sym, ◌∙◌}
+use Rattle.std.specs.Prelude.{Err, Ok, Result}
+use mathlib.Core.Path.{◌≡◌, refl, ap}
 use mathlib.Core.Bool.{Bool, true, false, not}
 use mathlib.Core.List.{List, [], ◌∷◌, ◌++◌}
 use Prim.Native.Nat.{ℕ, ◌+◌, ◌*◌, ◌/◌, ◌^◌, ◌<◌, ◌≤◌}
@@ -11,7 +12,7 @@ use native.Mathlib.Omega.{arith}
 use lib.ListN.{length}
 use Rattle.dialect.specs.declared.Dialect.{Dialect}
 use Rattle.forest.specs.Forest.{node_of, span_of, kids_of, rest_of, forest}
-use Rattle.forest.proofs.Stretch.{forest_none, forest_induction, rest_part, length_rest, length_kids}
+use Rattle.forest.proofs.Stretch.{forest_none, forest_induction, length_rest, length_kids}
 use Rattle.deflist.specs.Written.{params_in, written}
 use Rattle.deflist.specs.Limited.{limited}
 use Rattle.deflist.specs.Told.{told}
@@ -19,11 +20,9 @@ use Rattle.deflist.specs.Reading.{is_listed, kind_here, Inside}
 use Rattle.deflist.specs.declared.Counts.{Counts}
 use Rattle.deflist.specs.declared.Kind.{Kind}
 use Rattle.deflist.specs.declared.Fault.{Fault}
-use Rattle.deflist.specs.declared.Judged.{Judged}
-use Rattle.deflist.specs.declared.Judged.TheVariants.{Accepted, Refused}
-use Rattle.deflist.proofs.Reading.{node_in_lem, kind_in_lem, listed_long, list_end, list_on}
+use Rattle.deflist.proofs.Reading.{node_in_lem, kind_in_lem, listed_long, list_end, list_next}
 use Rattle.deflist.proofs.Theorems.{list_short, written_short}
-use Rattle.errors.specs.declared.Err.{Err}
+use Rattle.errors.specs.declared.Finding.{Finding}
 use Rattle.errors.specs.declared.Listing.{Listing}
 use Rattle.errors.specs.Errors.{err, err_at, unless, Stores}
 use Rattle.errors.proofs.Storing.{free_at, after, back, stores_none, stores_both, stores_few, unless_one}
@@ -37,17 +36,19 @@ use Rattle.validate.specs.declared.Mark.TheVariants.{Star, Slash as SlashMark}
 use Rattle.validate.proofs.Bounds.{sort_few, params_few, with_few, list_few}
 
 -- a check of few errors
-pub few_by : {l : Listing} {most : ℕ} (es : List Err) {xs : List ℕ} {n : ℕ} {ys : List ℕ} → length es ≤ most
+pub few_by : {l : Listing} {most : ℕ} (es : List Finding) {xs : List ℕ} {n : ℕ} {ys : List ℕ} → length es ≤ most
     → Stores l es xs n ys → StoresFew l most es xs n ys
 few_by es h s = record { few = omega (arith, stores_few es s); stores = s }
 
 -- every mark of a sort: the first parameter and those after it, whatever the names
 module _ (m : Mark) where
-  marks_cut : (ns : List ℕ) (i : ℕ) (t : List ℕ) {e : ℕ} → is_listed t ≡ true → e ≡ span_of t
+  marks_cut : (ns : List ℕ) (i : ℕ) (t : List ℕ) → is_listed t ≡ true → {next : ℕ} {rest : List ℕ}
+      → next ≡ i + span_of t / 24 → rest ≡ rest_of t
       → every_mark m (params_in ns (forest i t)) ≡ mark_error m (node_of i t) (kind_here t)
-      ++ every_mark m (params_in ns (forest (i + e / 24) (after e t)))
+      ++ every_mark m (params_in ns (forest next rest))
   unfolding every_mark
-  marks_cut ns i t listed e-is = rw (list_on ns i t listed e-is, node_in_lem ns (node_of i t), kind_in_lem ns i t) refl
+  marks_cut ns i t listed next-is rest-is =
+      rw (list_next ns i t listed next-is rest-is, node_in_lem ns (node_of i t), kind_in_lem ns i t) refl
 
   same_marks : (ns ms : List ℕ) (i : ℕ) (t : List ℕ)
       → every_mark m (params_in ns (forest i t)) ≡ every_mark m (params_in ms (forest i t))
@@ -61,11 +62,11 @@ module _ (m : Mark) where
           → every_mark m (params_in ns (forest (i + span_of t / 24) (rest_of t)))
           ≡ every_mark m (params_in ms (forest (i + span_of t / 24) (rest_of t)))
           → every_mark m (params_in ns (forest i t)) ≡ every_mark m (params_in ms (forest i t))
-      go i t true e h = rw (marks_cut ns i t e refl, marks_cut ms i t e refl, rest_part (span_of t) t refl, h) refl
+      go i t true e h = rw (marks_cut ns i t e refl refl, marks_cut ms i t e refl refl, h) refl
       go i t false e h = rw (list_end ns i t e, list_end ms i t e) refl
 
 -- every mark of a sort in a loop: those of what is left, which begins with the node place, come next
-abbrev pub marks_in : Mark → ℕ → List ℕ → List Err
+abbrev pub marks_in : Mark → ℕ → List ℕ → List Finding
 marks_in m i t = every_mark m (params_in [] (forest i t))
 
 pub record Marking (l : Listing) (m : Mark) (i : ℕ) (t xs₀ left : List ℕ) (place total : ℕ) (xs : List ℕ) : Type 0
@@ -88,26 +89,24 @@ module _ {l : Listing} (m : Mark) (i : ℕ) (t : List ℕ) where
     pub mark_long : length xs ≡ length xs₀
     mark_long = turns_long w.turns
 
-    module _ {b : Bool} (b_is : b ≡ is_listed left) where
-      pub mark_on : b ≡ true → {at n : ℕ} {zs : List ℕ} → at ≡ free_at l total xs
-          → Stores l (mark_error m (node_of place left) (kind_here left)) (after at xs) n zs → {e : ℕ}
-          → e ≡ span_of left
-          → Marking l m i t xs₀ (after e left) (place + e / 24) (total + n) (back at xs zs)
-      mark_on listed at-is s {e} e-is =
-          let here : is_listed left ≡ true = sym b_is ∙ listed in
-          let next = turns_on w.turns (marks_cut m [] place left here e-is) at-is s in
-          record {
-            within = rw (rest_part e left e-is) (omega (arith, length_rest left, w.within, listed_long left here));
-            few = omega (arith, turns_few next, all_few m i t);
-            turns = next;
-          }
+    pub mark_on : is_listed left ≡ true → {at n : ℕ} {zs : List ℕ} → at ≡ free_at l total xs
+        → Stores l (mark_error m (node_of place left) (kind_here left)) (after at xs) n zs
+        → {j : ℕ} {rest : List ℕ} → j ≡ place + span_of left / 24 → rest ≡ rest_of left
+        → Marking l m i t xs₀ rest j (total + n) (back at xs zs)
+    mark_on listed at-is s j-is rest-is =
+        let next = turns_on w.turns (marks_cut m [] place left listed j-is rest-is) at-is s in
+        record {
+          within = omega (arith, length_rest left, w.within, listed_long left listed, j-is, ap length rest-is);
+          few = omega (arith, turns_few next, all_few m i t);
+          turns = next;
+        }
 
-      pub mark_end : b ≡ false → StoresFew l (length t / 24) (marks_in m i t) xs₀ total xs
-      unfolding every_mark
-      mark_end none = record {
-        few = w.few;
-        stores = turns_end w.turns (rw (list_end [] place left (sym b_is ∙ none)) refl);
-      }
+    pub mark_end : is_listed left ≡ false → StoresFew l (length t / 24) (marks_in m i t) xs₀ total xs
+    unfolding every_mark
+    mark_end none = record {
+      few = w.few;
+      stores = turns_end w.turns (rw (list_end [] place left none) refl);
+    }
 
 -- one parameter has few errors
 pub mark_few : {l : Listing} (m : Mark) (i : ℕ) (t : List ℕ) {xs ys : List ℕ} {n : ℕ}
@@ -131,17 +130,18 @@ module _ {l : Listing} (d : Dialect) (m : Mark) (i : ℕ) (t xs : List ℕ) {p :
   marks_not off s = rw (← p-is, off) s
 
 -- what is said of a list
-module _ {l : Listing} {j k : Judged} (j-is : j ≡ k) (xs : List ℕ) where
-  pub error_none : {c : Counts} → j ≡ Accepted c → StoresFew l 1 (unpack_error k) xs 0 xs
+module _ {l : Listing} {j k : Result Counts Fault} (j-is : j ≡ k) (xs : List ℕ) where
+  pub error_none : {c : Counts} → j ≡ Ok c → StoresFew l 1 (unpack_error k) xs 0 xs
   error_none h = record { few = omega arith; stores = rw (← j-is, h) (stores_none xs) }
 
-  pub error_one : {a : Fault} → j ≡ Refused a → {e : Err} → e ≡ err a.number a.node a.span
+  pub error_one : {a : Fault} → j ≡ Err a → {e : Finding} → e ≡ err a.number a.node a.span
       → {n : ℕ} {ys : List ℕ} → Stores l (e ∷ []) xs n ys → StoresFew l 1 (unpack_error k) xs n ys
   error_one h {e} e-is s = record { few = omega (arith, stores_few (e ∷ []) s); stores = rw (← j-is, h, ← e-is) s }
 
 -- the node of a refusal is one of the table
-pub fault_small : (i : ℕ) (t : List ℕ) {j : Judged} {a : Fault} → (24 ≤ length t) × (24 * i + length t ≤ 50400)
-    → Inside (i + 1 + length t / 24) j → j ≡ Refused a → a.node < 2 ^ 32
+pub fault_small : (i : ℕ) (t : List ℕ) {j : Result Counts Fault} {a : Fault}
+    → (24 ≤ length t) × (24 * i + length t ≤ 50400)
+    → Inside (i + 1 + length t / 24) j → j ≡ Err a → a.node < 2 ^ 32
 fault_small i t room inside h = omega (arith, room.1, (rw h at inside).0)
 
 -- the children of a node lie within the largest table, if it does

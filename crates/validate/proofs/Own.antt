@@ -2,6 +2,9 @@
 -- are all. Every other number is looked at once: those of marks, of statements by their arm (`own_arm`), of
 -- expressions (`own_expr`). The induction is on the forest, for statements and expressions at once (`own_forest`).
 -- Cite `own_module`. Assumes nothing.
+use Rattle.std.specs.Prelude.{Err, Ok, Result}
+use Rattle.deflist.specs.declared.Fault.{Fault}
+use Rattle.deflist.specs.declared.Counts.{Counts}
 use mathlib.Core.Path.{◌≡◌, refl, ◌∙◌}
 use mathlib.Core.Bool.{Bool, true, false, ◌&&◌, ◌||◌, not}
 use mathlib.Core.List.{List, [], ◌∷◌, ◌++◌}
@@ -21,9 +24,7 @@ use Rattle.table.specs.Numbers.{lambda_not_permitted}
 use Rattle.deflist.specs.Written.{Param, node_in, kind_in, params_in}
 use Rattle.deflist.specs.Limited.{limited}
 use Rattle.deflist.specs.Told.{told}
-use Rattle.deflist.specs.declared.Judged.{Judged}
-use Rattle.deflist.specs.declared.Judged.TheVariants.{Accepted, Refused}
-use Rattle.errors.specs.declared.Err.{Err}
+use Rattle.errors.specs.declared.Finding.{Finding}
 use Rattle.errors.specs.declared.Listing.TheVariants.{Own}
 use Rattle.errors.specs.Errors.{err_at, unless_in, is_list_error, without_lists, kept}
 use Rattle.errors.proofs.Storing.{kept_append}
@@ -38,9 +39,9 @@ use Rattle.validate.specs.declared.Arm.{Arm}
 use Rattle.validate.specs.declared.Arm.TheVariants.{Def, Load, Told, Below}
 
 -- a list is not refused; and none is, of the defs and lambdas among trees
-abbrev pub passes : Judged → Bool
-passes (Accepted c) = true
-passes (Refused f) = false
+abbrev pub passes : Result Counts Fault → Bool
+passes (Ok c) = true
+passes (Err f) = false
 
 abbrev pub has_list : ℕ → Bool
 has_list k = eqb k kind_def || eqb k kind_lambda
@@ -54,26 +55,26 @@ unfoldable mutual
   list_passes names (node r ks) =
       (not (has_list r.kind) || passes (told (limited r (params_in names ks)))) && lists_pass names ks
 
-passes_quiet : (j : Judged) → passes j ≡ true → unpack_error j ≡ []
-passes_quiet (Accepted c) e = refl
-passes_quiet (Refused f) e = never (cc)
+passes_quiet : (j : Result Counts Fault) → passes j ≡ true → unpack_error j ≡ []
+passes_quiet (Ok c) e = refl
+passes_quiet (Err f) e = never (cc)
 
 asked : (a b : Bool) → (not a || b) ≡ true → a ≡ true → b ≡ true
 asked true b e h = e
 asked false b e h = never (cc)
 
 -- no error is one of a parameter list
-abbrev OwnOnly : List Err → Type 0
+abbrev OwnOnly : List Finding → Type 0
 OwnOnly es = kept Own es ≡ es
 
 own_none : OwnOnly []
 unfolding without_lists
 own_none = refl
 
-own_both : (es fs : List Err) → OwnOnly es → OwnOnly fs → OwnOnly (es ++ fs)
+own_both : (es fs : List Finding) → OwnOnly es → OwnOnly fs → OwnOnly (es ++ fs)
 own_both es fs p q = kept_append Own es fs ∙ rw (p, q) refl
 
-own_one : (e : Err) → is_list_error e.number ≡ false → OwnOnly (e ∷ [])
+own_one : (e : Finding) → is_list_error e.number ≡ false → OwnOnly (e ∷ [])
 unfolding without_lists
 own_one e h = rw h refl
 
@@ -96,7 +97,7 @@ own_every m (p ∷ ps) =
 own_marks : (d : Dialect) (m : Mark) (ps : List Param) → OwnOnly (marks d m ps)
 own_marks d m ps = go (permits d m)
   where
-    go : (b : Bool) → OwnOnly (if' {A = List Err} b (λ _. []) (λ _. every_mark m ps))
+    go : (b : Bool) → OwnOnly (if' {A = List Finding} b (λ _. []) (λ _. every_mark m ps))
     go true = own_none
     go false = own_every m ps
 
@@ -122,7 +123,8 @@ module _ (d : Dialect) (names : List ℕ) where
   passed_list r ks h e = passes_quiet (told (limited r (params_in names ks))) (asked (has_list r.kind) _ e h)
 
   -- the arm of a Def, and the numbers of the others
-  own_arm : (s : Standing) (r : Node) (ks : Forest) (visit : Standing → List Err) → ((p : Standing) → OwnOnly (visit p))
+  own_arm : (s : Standing) (r : Node) (ks : Forest) (visit : Standing → List Finding)
+      → ((p : Standing) → OwnOnly (visit p))
       → Passed r ks → OwnOnly (on_arm d names s r ks visit (arm_of d s r.kind))
   unfolding arm_of
   own_arm s r ks visit below e =

@@ -6,14 +6,14 @@
 use mathlib.Core.Path.{◌≡◌, refl, sym, ◌∙◌}
 use mathlib.Core.Bool.{Bool, true, false, ◌||◌}
 use mathlib.Core.List.{List, []}
-use Prim.Native.Nat.{ℕ, ◌+◌, ◌-◌, ◌/◌, ◌<◌, ◌≤◌}
+use Prim.Native.Nat.{ℕ, ◌+◌, ◌/◌, ◌<◌, ◌≤◌}
 use native.Mathlib.Omega.{arith}
 use lib.Dec.{eqb, leb}
-use lib.ListN.{length, take, drop}
+use lib.ListN.{length}
 use borrow.Author.Tests.{eqb-true, leb-true}
 use Rattle.dialect.specs.declared.Dialect.{Dialect}
-use Rattle.forest.specs.Forest.{node_of, span_of, Tree, node, Forest, none, ◌then◌, forest, tree_of}
-use Rattle.forest.proofs.Stretch.{forest_none, each_cut}
+use Rattle.forest.specs.Forest.{node_of, span_of, rest_of, Tree, node, Forest, none, ◌then◌, forest, tree_of}
+use Rattle.forest.proofs.Stretch.{forest_none, each_next}
 use Rattle.soundness.specs.KindNumbers.{kind_statements, kind_def, kind_for, kind_if, kind_if_else, kind_break, kind_continue}
 use Rattle.soundness.specs.KindNumbers.{kind_return, kind_load, kind_other_simple}
 use Rattle.soundness.specs.Kinds.{statement, class_of}
@@ -50,17 +50,16 @@ module _ {t : List ℕ} where
 
     module _ (big : 24 ≤ length left) {k : ℕ} (k_is : k ≡ (node_of 0 left).kind) {b : Bool}
         (b_is : b ≡ eqb (class_of k) statement) where
-      cut : (i : ℕ) {e : ℕ} → e ≡ span_of left
-          → has_statement (forest i left)
-          ≡ (b || has_statement (forest (i + e / 24) (take (length left - e) (drop e left))))
-      cut i e-is = rw (b_is, k_is) (each_cut has_statement i _ left is_one ◌||◌ first_of big e-is)
+      cut : (i : ℕ) {after : List ℕ} → after ≡ rest_of left
+          → has_statement (forest i left) ≡ (b || has_statement (forest (i + span_of left / 24) after))
+      cut i after-is = rw (b_is, k_is) (each_next has_statement is_one ◌||◌ first_of i left big refl after-is)
 
       pub seek_found : b ≡ true → SaysStatement t true
       seek_found found = s.decides true (λ i. sym (rw found at (cut i refl)))
 
-      pub seek_on : b ≡ false → {e : ℕ} → e ≡ span_of left → Seeking t (take (length left - e) (drop e left))
-      seek_on not-here {e} e-is = record {
-        decides = λ c says. s.decides c (λ i. says (i + e / 24) ∙ sym (rw not-here at (cut i e-is)));
+      pub seek_on : b ≡ false → {after : List ℕ} → after ≡ rest_of left → Seeking t after
+      seek_on not-here after-is = record {
+        decides = λ c says. s.decides c (λ i. says (i + span_of left / 24) ∙ sym (rw not-here at (cut i after-is)));
       }
 
 -- LAW: nodes side by side of which none is a statement have no errors in the statement walk

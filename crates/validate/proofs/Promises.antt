@@ -1,6 +1,8 @@
 -- Two answers that meet the promise of a public function coincide, and so do the two lists of words: a promise is an
 -- equation for each of them, and an answer is determined by what it means (`listed_injective`). Each statement is
 -- written from its function's contract, which tools/promises.py checks. Assumes nothing.
+use Rattle.std.specs.Prelude.{Err, Ok, Result, ℕ}
+use Rattle.table.specs.declared.Refusal.{Refusal}
 use mathlib.Core.Path.{◌≡◌, sym, ap}
 use mathlib.Core.List.{List}
 use Prim.Native.Nat.{ℕ}
@@ -11,17 +13,15 @@ use Rattle.errors.specs.declared.Listing.{Listing}
 use Rattle.fields.proofs.Coincide.{coincide, coincide_by}
 use Rattle.table.proofs.Answers.{refusal_injective, never_accepted}
 use Rattle.validate.specs.Job.{listed, pass_errors, module_of, errors_after}
-use Rattle.validate.specs.declared.Listed.{Listed}
-use Rattle.validate.specs.declared.Listed.TheVariants.{Total, Refused}
 
-pub listed_injective : (r s : Listed) → listed r ≡ listed s → r ≡ s
-listed_injective (Total m) (Total n) e = cc
-listed_injective (Total m) (Refused r) e = never_accepted r (sym e)
-listed_injective (Refused r) (Total n) e = never_accepted r e
-listed_injective (Refused r) (Refused s) e = ap Refused (refusal_injective r s e)
+pub listed_injective : (r s : Result ℕ Refusal) → listed r ≡ listed s → r ≡ s
+listed_injective (Ok m) (Ok n) e = cc
+listed_injective (Ok m) (Err r) e = never_accepted r (sym e)
+listed_injective (Err r) (Ok n) e = never_accepted r e
+listed_injective (Err r) (Err s) e = ap Err (refusal_injective r s e)
 
 -- of `module`
-pub module_one : (table names dialect errors : List ℕ) {r s : Listed} {errors-r errors-s : List ℕ}
+pub module_one : (table names dialect errors : List ℕ) {r s : Result ℕ Refusal} {errors-r errors-s : List ℕ}
     → listed r ≡ module_of table names dialect → errors-r ≡ errors_after table names dialect errors
     → listed s ≡ module_of table names dialect → errors-s ≡ errors_after table names dialect errors
     → (r ≡ s) × (errors-r ≡ errors-s)

@@ -2,6 +2,8 @@
 -- out keeps nothing of a parameter list (`list_left`), and code need not judge it (`own_judges_none`). It is shown
 -- rule by rule: a check, a step and the end of `unpack` refuse by such a number or not at all. The induction is on the
 -- parameters that are left (`run_in`). Assumes nothing.
+use Rattle.std.specs.Prelude.{None, Option, Some, ℕ}
+use Rattle.deflist.specs.declared.Flat.{Flat}
 use mathlib.Core.Path.{◌≡◌, refl}
 use mathlib.Core.Bool.{Bool, true, false}
 use mathlib.Core.List.{List, [], ◌∷◌, ◌++◌}
@@ -11,8 +13,6 @@ use lib.ListN.{length, drop}
 use lib.Dec.{ltb}
 use Rattle.fields.specs.Choice.{if'}
 use Rattle.forest.specs.Forest.{Node}
-use Rattle.forest.specs.declared.Found.{Found}
-use Rattle.forest.specs.declared.Found.TheVariants.{At, Nothing}
 use Rattle.table.specs.Numbers.{slash_first, too_many_parameters}
 use Rattle.deflist.specs.Written.{Param, normal, no_args, slash, args, kwargs, node_in, kind_in}
 use Rattle.deflist.specs.Unpack.{default_rule, rule, firstly, check, repeats, unless_written, unless_flat, keep, step}
@@ -28,10 +28,6 @@ use Rattle.deflist.specs.declared.Kind.TheVariants.{Normal, NoArgs, Slash, Args,
 use Rattle.deflist.specs.declared.State.{State}
 use Rattle.deflist.specs.declared.State.TheVariants.{Normal as BeforeSlash, SeenSlash, SeenStar, SeenStarStar}
 use Rattle.deflist.specs.declared.Written.{Written}
-use Rattle.deflist.specs.declared.WrittenPlace.{WrittenPlace}
-use Rattle.deflist.specs.declared.WrittenPlace.TheVariants.{AtWritten, NoWritten}
-use Rattle.deflist.specs.declared.FlatPlace.{FlatPlace}
-use Rattle.deflist.specs.declared.FlatPlace.TheVariants.{AtFlat, NoFlat}
 use Rattle.deflist.specs.declared.Counts.{Counts}
 use Rattle.deflist.specs.declared.Unpacking.{Unpacking}
 use Rattle.deflist.proofs.Limited.{limited_internal}
@@ -92,18 +88,18 @@ check_in_lem : (before : List Param) (s : State) (optional : Bool) (p : Param)
     → check_in (check before s optional p) ≡ true
 check_in_lem before s optional p = go (repeats before p)
   where
-    go : (f : Found) → check_in (firstly f (rule s optional (kind_in p))) ≡ true
-    go (At i) = refl
-    go Nothing = rule_in s optional (kind_in p)
+    go : (f : Option ℕ) → check_in (firstly f (rule s optional (kind_in p))) ≡ true
+    go (Some i) = refl
+    go None = rule_in s optional (kind_in p)
 
 -- a parameter that keeps its rule
-written_in_lem : (w : WrittenPlace) (e : Internal) (u : Unpacking) → step_in (unless_written w e u) ≡ true
-written_in_lem NoWritten e u = refl
-written_in_lem (AtWritten i) e u = refl
+written_in_lem : (w : Option Written) (e : Internal) (u : Unpacking) → step_in (unless_written w e u) ≡ true
+written_in_lem None e u = refl
+written_in_lem (Some i) e u = refl
 
-flat_in_lem : (f : FlatPlace) (e : Internal) (u : Unpacking) → step_in (unless_flat f e u) ≡ true
-flat_in_lem NoFlat e u = refl
-flat_in_lem (AtFlat i) e u = refl
+flat_in_lem : (f : Option Flat) (e : Internal) (u : Unpacking) → step_in (unless_flat f e u) ≡ true
+flat_in_lem None e u = refl
+flat_in_lem (Some i) e u = refl
 
 keep_in : (u : Unpacking) (i : Written) (k : Kind) → step_in (keep u i k) ≡ true
 keep_in u i (Normal default) = refl
@@ -132,10 +128,10 @@ star_in (p ∷ slash r ∷ ps) c = refl
 star_in (p ∷ args r n ∷ ps) c = refl
 star_in (p ∷ kwargs r n ∷ ps) c = refl
 
-finish_in : (w : List Param) (star : WrittenPlace) (c : Counts) → outcome_in (finish w star c) ≡ true
+finish_in : (w : List Param) (star : Option Written) (c : Counts) → outcome_in (finish w star c) ≡ true
 unfolding finish
-finish_in w NoWritten c = refl
-finish_in w (AtWritten i) c = star_in (drop i.0 w) c
+finish_in w None c = refl
+finish_in w (Some i) c = star_in (drop i.0 w) c
 
 run_in : (before : List Param) (u : Unpacking) (ps : List Param) → outcome_in (run before u ps) ≡ true
 unfolding run

@@ -10,10 +10,10 @@ use mathlib.Core.List.{List, [], ◌∷◌, ◌++◌, append-nil}
 use Prim.Native.Nat.{ℕ, zero, suc, ◌+◌, ◌-◌, ◌/◌, ◌<◌, ◌≤◌}
 use native.Mathlib.Omega.{arith}
 use lib.Dec.{eqb}
-use lib.ListN.{length, take, drop, length-drop}
+use lib.ListN.{length, take, drop, length-drop, get_or, length-append}
+use lib.Seq.{drop-append_seam}
 use Rattle.fields.specs.Choice.{if'}
 use Rattle.fields.proofs.Basics.{never}
-use Rattle.fields.proofs.Fields.{tail_part}
 use Rattle.dialect.specs.declared.Dialect.{Dialect}
 use Rattle.dialect.specs.Rows.{permits_types}
 use Rattle.forest.specs.Forest.{Node, node_of, span_of, rest_of, Tree, node, Forest, none, ◌then◌, forest, tree_of}
@@ -115,14 +115,28 @@ module _ {t : List ℕ} where
           sites_at (length (drop 24 left) / 24) 1 0 (drop 24 left),
         ) refl
 
-    module _ (big : 24 ≤ length left) {k : ℕ} (k_is : k ≡ (node_of 0 left).kind) {b : Bool} (b_is : b ≡ is_site k) where
-      pub scan_found : b ≡ true → true ≡ sites t
-      scan_found found = rw (← s.same, first_site big, ← k_is, ← b_is, found) refl
+    -- the first record and what follows it, as `chunks_exact` cuts them
+    module _ (piece after : List ℕ) (cut : left ≡ piece ++ after) (whole : length piece ≡ 24) {k : ℕ}
+        (k_is : k ≡ (node_of 0 piece).kind) {b : Bool} (b_is : b ≡ is_site k) where
+      behind : drop 24 left ≡ after
+      behind = rw (cut, ← whole) (drop-append_seam piece after)
 
-      pub scan_on : b ≡ false → Scanning t (take (length left - 24) (drop 24 left))
-      scan_on not-here = record {
-        same = rw (tail_part 24 left) (rw (first_site big, ← k_is, ← b_is, not-here) at s.same);
-      }
+      kind_of_first : (node_of 0 left).kind ≡ k
+      kind_of_first = rw (cut, k_is) (go piece whole)
+        where
+          go : (r : List ℕ) → length r ≡ 24 → get_or (r ++ after) 0 0 ≡ get_or r 0 0
+          go [] e = absurd (omega arith)
+          go (x ∷ r) e = refl
+
+      decided : sites left ≡ (b || sites after)
+      decided = first_site (omega (arith, ap length cut, whole, length-append piece after))
+          ∙ rw (kind_of_first, behind, b_is) refl
+
+      pub scan_found : b ≡ true → true ≡ sites t
+      scan_found found = rw (← s.same, decided, found) refl
+
+      pub scan_on : b ≡ false → Scanning t after
+      scan_on not-here = record { same = rw (decided, not-here) at s.same }
 
     pub scan_end : length left < 24 → false ≡ sites t
     unfolding has_site

@@ -1,6 +1,7 @@
 -- What users of the module job rely on: a refusal changes no word, the total is at most twice the node count, and a
 -- list with room for that many errors holds all. And what users of the pass alone rely on: what a form of the list
 -- keeps of its errors. Assumes nothing.
+use Rattle.std.specs.Prelude.{Ok}
 use mathlib.Core.Path.{◌≡◌, refl, ap}
 use mathlib.Core.List.{List, [], ◌∷◌, ◌++◌}
 use Prim.Native.Nat.{ℕ, ◌*◌, ◌/◌, ◌≤◌}
@@ -14,12 +15,11 @@ use Rattle.forest.proofs.Stretch.{count_forest}
 use Rattle.fields.proofs.Basics.{never}
 use Rattle.table.specs.Answer.{accepted, refused}
 use Rattle.table.specs.Check.{Handing, in_dialect, turned_away, given_of, in_given}
-use Rattle.errors.specs.declared.Err.{Err}
+use Rattle.errors.specs.declared.Finding.{Finding}
 use Rattle.errors.specs.Errors.{is_list_error, without_lists, kept, width, stored}
 use Rattle.errors.specs.declared.Listing.{Listing}
 use Rattle.errors.specs.declared.Listing.TheVariants.{Module, Own}
 use Rattle.errors.proofs.Storing.{all_words, stored_all, stored_none, kept_few}
-use Rattle.validate.specs.declared.Listed.TheVariants.{Total}
 use Rattle.validate.specs.Job.{listed, pass_errors, errors_in, errors_of, module_of, errors_after}
 use Rattle.validate.proofs.Bounds.{module_few}
 
@@ -45,10 +45,10 @@ module _ (t names bytes : List ℕ) where
       go (turned_away m ws) = omega arith
 
   -- THEOREM: the total that the job answers is at most twice the node count
-  pub total_few : (n : ℕ) → listed (Total n) ≡ module_of t names bytes → n ≤ 2 * (length t / 24)
+  pub total_few : (n : ℕ) → listed (Ok n) ≡ module_of t names bytes → n ≤ 2 * (length t / 24)
   total_few n e = go (given_of t names bytes) e
     where
-      go : (h : Handing) → listed (Total n) ≡ in_given h (λ _. accepted (length (errors_of t names bytes) ∷ []))
+      go : (h : Handing) → listed (Ok n) ≡ in_given h (λ _. accepted (length (errors_of t names bytes) ∷ []))
           → n ≤ 2 * (length t / 24)
       go (in_dialect d) h = let total : n ≡ length (errors_of t names bytes) = cc in omega (arith, errors_few)
       go (turned_away m vs) h = never (cc)
@@ -61,12 +61,12 @@ module _ (t names bytes : List ℕ) where
   list_holds_all xs room = stored_all Module (errors_of t names bytes) xs (omega (arith, errors_few))
 
 -- no error of some is one of a parameter list
-abbrev pub none_of_lists : List Err → Bool
+abbrev pub none_of_lists : List Finding → Bool
 none_of_lists [] = true
 none_of_lists (e ∷ es) = not (is_list_error e.number) && none_of_lists es
 
 -- THEOREM: of the module pass's own errors none is one of a parameter list, 10 to 19
-pub own_none : (es : List Err) → none_of_lists (kept Own es) ≡ true
+pub own_none : (es : List Finding) → none_of_lists (kept Own es) ≡ true
 unfolding without_lists
 own_none [] = refl
 own_none (e ∷ es) = go (is_list_error e.number) refl (own_none es)
@@ -78,7 +78,7 @@ own_none (e ∷ es) = go (is_list_error e.number) refl (own_none es)
 
 -- THEOREM: and every other is there: where none is one of a parameter list, all are kept. In the form Own the pass's
 -- errors are therefore the module pass's, in their order, without 10 to 19 (`kept_append` of errors says it of parts)
-pub own_all : (es : List Err) → none_of_lists es ≡ true → kept Own es ≡ es
+pub own_all : (es : List Finding) → none_of_lists es ≡ true → kept Own es ≡ es
 unfolding without_lists
 own_all [] h = refl
 own_all (e ∷ es) h = go (is_list_error e.number) h (λ rest. own_all es rest)
@@ -86,7 +86,7 @@ own_all (e ∷ es) h = go (is_list_error e.number) h (λ rest. own_all es rest)
     go : (b : Bool) → (not b && none_of_lists es) ≡ true → (none_of_lists es ≡ true → without_lists es ≡ es)
         → if' b (λ _. without_lists es) (λ _. e ∷ without_lists es) ≡ e ∷ es
     go true both all = never (cc)
-    go false both all = ap (λ (rest : List Err). e ∷ rest) (all both)
+    go false both all = ap (λ (rest : List Finding). e ∷ rest) (all both)
 
 -- THEOREM: the pass counts at most twice as many errors as nodes, in any form
 pub pass_few : (l : Listing) (d : Dialect) (names t : List ℕ)

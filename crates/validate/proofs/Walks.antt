@@ -4,7 +4,7 @@
 -- `each_cut`). For a tree there is one law for each return: a statement by its arm (`f_none` to `f_def`), an
 -- expression by its own record and by what is below it (`expr_leaf`, `expr_on`). A kind is a statement's where it is 1
 -- to 12, computed for every byte (`statement_range`). Assumes nothing.
-use mathlib.Core.Path.{◌≡◌, refl, sym, ◌∙◌}
+use mathlib.Core.Path.{◌≡◌, refl, sym, ap, ◌∙◌}
 use mathlib.Core.Bool.{Bool, true, false, ◌&&◌, not}
 use mathlib.Core.List.{List, [], ◌∷◌, ◌++◌, append-nil}
 use Prim.Native.Nat.{ℕ, zero, suc, ◌+◌, ◌-◌, ◌*◌, ◌/◌, ◌<◌, ◌≤◌}
@@ -15,13 +15,13 @@ use borrow.Author.Tests.{eq-eqb, ne_eqb, eqb-true, eqb-false}
 use Rattle.fields.proofs.Basics.{never, and_left, and_right}
 use Rattle.dialect.specs.declared.Dialect.{Dialect}
 use Rattle.dialect.specs.Rows.{permits_types}
-use Rattle.forest.specs.Forest.{node_of, span_of, kids_of, Tree, Forest, none, ◌then◌, forest, tree_of}
-use Rattle.forest.proofs.Stretch.{forest_none, kids_part, rest_part, length_kids, length_rest, each_cut}
+use Rattle.forest.specs.Forest.{node_of, span_of, kids_of, rest_of, Tree, Forest, none, ◌then◌, forest, tree_of}
+use Rattle.forest.proofs.Stretch.{forest_none, kids_part, length_kids, length_rest, each_next}
 use Rattle.soundness.specs.KindNumbers.{kind_def, kind_for, kind_if, kind_if_else, kind_break, kind_continue, kind_return}
 use Rattle.soundness.specs.KindNumbers.{kind_load, kind_ellipsis, kind_lambda}
 use Rattle.soundness.specs.Kinds.{statement, kind_in, kind_of, class_of}
 use Rattle.table.specs.Numbers.{def_not_permitted, ellipsis_not_permitted, lambda_not_permitted}
-use Rattle.errors.specs.declared.Err.{Err}
+use Rattle.errors.specs.declared.Finding.{Finding}
 use Rattle.errors.specs.declared.Listing.{Listing}
 use Rattle.errors.specs.Errors.{err_at, unless, Stores}
 use Rattle.errors.proofs.Storing.{free_at, after, back, stores_none, stores_both, stores_few, unless_one}
@@ -82,7 +82,7 @@ arm_other d s {k} no-def no-for no-if no-else no-break no-continue no_return no-
 ) refl
 
 -- a rule over nodes side by side: the errors of each tree, in turn, and these are few
-pub record Walk (all : Forest → List Err) (one : Tree → List Err) : Type 0 where
+pub record Walk (all : Forest → List Finding) (one : Tree → List Finding) : Type 0 where
   pub empty : all none ≡ []
   pub first : (t : Tree) (ts : Forest) → all (t then ts) ≡ one t ++ all ts
   pub short : (i : ℕ) (t : List ℕ) → 12 * length (all (forest i t)) ≤ length t
@@ -105,7 +105,7 @@ module _ {l : Listing} (d : Dialect) (names : List ℕ) (i : ℕ) (t : List ℕ)
   expr_short q = omega (arith, stores_few _ q, first_few d names i t in_def)
 
 -- nodes side by side in a loop: of the whole, those of what is left of t come next
-pub record Visiting (l : Listing) (all : Forest → List Err) (one : Tree → List Err) (whole : List Err)
+pub record Visiting (l : Listing) (all : Forest → List Finding) (one : Tree → List Finding) (whole : List Finding)
     (t xs₀ left : List ℕ) (place total : ℕ) (xs : List ℕ) : Type 0 where
   pub walk : Walk all one
   pub within : 24 * place + length left ≤ 50400
@@ -114,7 +114,7 @@ pub record Visiting (l : Listing) (all : Forest → List Err) (one : Tree → Li
   pub few : total ≤ 4200
   pub turns : Turns l whole xs₀ (all (forest place left)) total xs
 
-module _ {l : Listing} {all : Forest → List Err} {one : Tree → List Err} where
+module _ {l : Listing} {all : Forest → List Finding} {one : Tree → List Finding} where
   pub each_start : Walk all one → {at : ℕ} {t xs : List ℕ} → 24 * at + length t ≤ 50400
       → Visiting l all one (all (forest at t)) t xs t at 0 xs
   each_start w {at} {t} {xs} h = record {
@@ -126,7 +126,7 @@ module _ {l : Listing} {all : Forest → List Err} {one : Tree → List Err} whe
     turns = turns_start _ xs;
   }
 
-  module _ {whole : List Err} {t xs₀ left : List ℕ} {place total : ℕ} {xs : List ℕ}
+  module _ {whole : List Finding} {t xs₀ left : List ℕ} {place total : ℕ} {xs : List ℕ}
       (v : Visiting l all one whole t xs₀ left place total xs) where
     pub each_long : length xs ≡ length xs₀
     each_long = turns_long v.turns
@@ -138,15 +138,16 @@ module _ {l : Listing} {all : Forest → List Err} {one : Tree → List Err} whe
     }
 
     pub each_on : 24 ≤ length left → {n free : ℕ} {zs : List ℕ} → free ≡ free_at l total xs
-        → Stores l (one (tree_of place left)) (after free xs) n zs → {e : ℕ} → e ≡ span_of left
-        → Visiting l all one whole t xs₀ (after e left) (place + e / 24) (total + n)
-        (back free xs zs)
-    each_on big free-is s {e} e-is =
-        let next = turns_on v.turns (each_cut all place e left one ◌++◌ v.walk.first big e-is) free-is s in
+        → Stores l (one (tree_of place left)) (after free xs) n zs → {j : ℕ} {rest : List ℕ}
+        → j ≡ place + span_of left / 24 → rest ≡ rest_of left
+        → Visiting l all one whole t xs₀ rest j (total + n) (back free xs zs)
+    each_on big free-is s j-is rest-is =
+        let next = turns_on v.turns (each_next all one ◌++◌ v.walk.first place left big j-is rest-is) free-is s in
+        let less = length_rest left in
         record {
           walk = v.walk;
-          within = rw (rest_part e left e-is) (omega (arith, length_rest left, v.within));
-          part = rw (rest_part e left e-is) (omega (arith, length_rest left, v.part));
+          within = omega (arith, less, v.within, j-is, ap length rest-is);
+          part = omega (arith, less, v.part, ap length rest-is);
           most = v.most;
           few = omega (arith, turns_few next, v.most);
           turns = next;

@@ -3,12 +3,12 @@ use Rattle.std.specs.Prelude.{Bool, false, ◌||◌, List, [], ◌∷◌, ◌≡
 use Rattle.forest.specs.Forest.{Node, node, Forest, none, ◌then◌, forest}
 use Rattle.soundness.specs.KindNumbers.{kind_statements, kind_other_simple, kind_ellipsis, kind_lambda}
 use Rattle.soundness.specs.Kinds.{statement, class_of}
-use Rattle.errors.specs.declared.Err.{Err}
+use Rattle.errors.specs.declared.Finding.{Finding}
 use Rattle.errors.specs.declared.Listing.{Listing}
 use Rattle.errors.specs.Errors.{Stores}
 
 -- a check that finds the errors es, and counts no more than most
-pub record StoresFew (l : Listing) (most : ℕ) (es : List Err) (xs : List ℕ) (total : ℕ) (ys : List ℕ) : Type 0 where
+pub record StoresFew (l : Listing) (most : ℕ) (es : List Finding) (xs : List ℕ) (total : ℕ) (ys : List ℕ) : Type 0 where
   pub few : total ≤ most
   pub stores : Stores l es xs total ys
 

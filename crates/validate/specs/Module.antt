@@ -12,7 +12,7 @@ use Rattle.soundness.specs.Kinds.{statement, class_of}
 use Rattle.table.specs.Numbers.{def_not_permitted, top_level_for, top_level_if, break_misplaced, continue_misplaced}
 use Rattle.table.specs.Numbers.{return_misplaced, load_not_at_top, load_not_permitted, ellipsis_not_permitted}
 use Rattle.table.specs.Numbers.{lambda_not_permitted}
-use Rattle.errors.specs.declared.Err.{Err}
+use Rattle.errors.specs.declared.Finding.{Finding}
 use Rattle.errors.specs.Errors.{err_at, unless}
 use Rattle.validate.specs.Params.{with_params}
 use Rattle.validate.specs.declared.Standing.{Standing}
@@ -56,15 +56,15 @@ arm_of d s k =
     Below s)))))))
 
 -- a def and its parameters
-abbrev pub def_errors : Dialect → List ℕ → Node → Forest → List Err
+abbrev pub def_errors : Dialect → List ℕ → Node → Forest → List Finding
 def_errors d names r ks = with_params d names d.enable_def def_not_permitted r ks
 
 -- a load: 58, then 59
-abbrev pub load_errors : Dialect → Standing → Node → List Err
+abbrev pub load_errors : Dialect → Standing → Node → List Finding
 load_errors d s r = unless s.top_level load_not_at_top r ++ unless d.enable_load load_not_permitted r
 
 -- the errors of a statement, by its arm; visit gives the errors of the statements below it in a place
-abbrev pub on_arm : Dialect → List ℕ → Standing → Node → Forest → (Standing → List Err) → Arm → List Err
+abbrev pub on_arm : Dialect → List ℕ → Standing → Node → Forest → (Standing → List Finding) → Arm → List Finding
 on_arm d names s r ks visit Def = def_errors d names r ks ++ visit in_def
 on_arm d names s r ks visit Load = load_errors d s r
 on_arm d names s r ks visit (Told n) = err_at n r ∷ []
@@ -72,18 +72,18 @@ on_arm d names s r ks visit (Below p) = visit p
 
 -- a statement, and the statements among nodes side by side, in turn; a node that is no statement has no errors here
 unfoldable mutual
-  pub f : Dialect → List ℕ → Standing → Tree → List Err
+  pub f : Dialect → List ℕ → Standing → Tree → List Finding
   f d names s (node r ks) =
       if' (eqb (class_of r.kind) statement)
       (λ _. on_arm d names s r ks (λ p. visit_stmt d names p ks) (arm_of d s r.kind))
       (λ _. [])
 
-  pub visit_stmt : Dialect → List ℕ → Standing → Forest → List Err
+  pub visit_stmt : Dialect → List ℕ → Standing → Forest → List Finding
   visit_stmt d names s none = []
   visit_stmt d names s (t then ts) = f d names s t ++ visit_stmt d names s ts
 
 -- the errors of an expression by itself: of `...`, or of a lambda and its parameters
-unfoldable pub expr_errors : Dialect → List ℕ → Node → Forest → List Err
+unfoldable pub expr_errors : Dialect → List ℕ → Node → Forest → List Finding
 expr_errors d names r ks =
     if' (eqb r.kind kind_ellipsis) (λ _. unless (permits_types d.enable_types) ellipsis_not_permitted r) (λ _.
     if' (eqb r.kind kind_lambda) (λ _. with_params d names d.enable_lambda lambda_not_permitted r ks) (λ _.
@@ -91,13 +91,13 @@ expr_errors d names r ks =
 
 -- all expressions in table order, wherever they are; no other record has errors here
 unfoldable mutual
-  pub expr : Dialect → List ℕ → Tree → List Err
+  pub expr : Dialect → List ℕ → Tree → List Finding
   expr d names (node r ks) = expr_errors d names r ks ++ visit_expr d names ks
 
-  pub visit_expr : Dialect → List ℕ → Forest → List Err
+  pub visit_expr : Dialect → List ℕ → Forest → List Finding
   visit_expr d names none = []
   visit_expr d names (t then ts) = expr d names t ++ visit_expr d names ts
 
 -- a module: its statement at top level, then all expressions
-abbrev pub validate_module : Dialect → List ℕ → Forest → List Err
+abbrev pub validate_module : Dialect → List ℕ → Forest → List Finding
 validate_module d names ts = visit_stmt d names at_top ts ++ visit_expr d names ts

@@ -14,7 +14,7 @@ ghost use Rattle.table.specs.Check.{Headed, Within, most_nodes};
 use crate::params;
 use dialect::Dialect;
 use errors::Listing;
-use forest::RECORD;
+use forest::{Nodes, RECORD};
 use soundness::kinds;
 use table::numbers;
 
@@ -94,15 +94,11 @@ fn visit_expr(
         (visit_expr d names.now (forest at t.now))
         errors.old result errors.new }
 {
-    let mut left = t;
-    let mut place = at;
     let mut total = 0;
-    while RECORD <= left.len() {
+    for (place, left) in (Nodes { at, left: t }) {
         let free = errors::free(listing, errors.len(), total);
         let e = forest::span(left);
         total += check_expression(listing, d, names, left, e, place, &mut errors[free..]);
-        left = &left[e..];
-        place += e / RECORD;
     }
     total
 }
@@ -118,12 +114,10 @@ fn is_site(kind: u8) -> bool
 fn has_site(t: &[u8]) -> bool
     ensures { result ≡ has_site (nodes (forest 0 t.now)) }
 {
-    let mut left = t;
-    while RECORD <= left.len() {
-        if is_site(forest::kind(left)) {
+    for record in t.chunks_exact(RECORD) {
+        if is_site(forest::kind(record)) {
             return true;
         }
-        left = &left[RECORD..];
     }
     false
 }
@@ -165,15 +159,11 @@ fn visit_tops(
         (visit_expr d names.now (forest at t.now))
         errors.old result errors.new }
 {
-    let mut left = t;
-    let mut place = at;
     let mut total = 0;
-    while RECORD <= left.len() {
+    for (place, left) in (Nodes { at, left: t }) {
         let free = errors::free(listing, errors.len(), total);
         let e = forest::span(left);
         total += check_top(listing, d, names, left, e, place, &mut errors[free..]);
-        left = &left[e..];
-        place += e / RECORD;
     }
     total
 }
@@ -214,15 +204,11 @@ pub(crate) fn visit_roots(
         (visit_expr d names.now (forest at t.now))
         errors.old result errors.new }
 {
-    let mut left = t;
-    let mut place = at;
     let mut total = 0;
-    while RECORD <= left.len() {
+    for (place, left) in (Nodes { at, left: t }) {
         let free = errors::free(listing, errors.len(), total);
         let e = forest::span(left);
         total += check_root(listing, d, names, left, e, place, &mut errors[free..]);
-        left = &left[e..];
-        place += e / RECORD;
     }
     total
 }

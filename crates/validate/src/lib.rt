@@ -20,14 +20,7 @@ ghost use Rattle.table.specs.Check.{most_bytes};
 
 use dialect::Dialect;
 use errors::Listing;
-use table::{Given, Refusal};
-
-// The answer of the module job: the number of errors, or why it refuses.
-#[derive(Clone, Copy)]
-pub enum Listed {
-    Total(u32),
-    Refused(Refusal),
-}
+use table::Refusal;
 
 // The place of a statement.
 #[derive(Clone, Copy)]
@@ -54,16 +47,18 @@ pub enum Mark {
 }
 
 // The module job. A list that is too short for all errors gets the first that fit whole; this is not a refusal.
-pub fn module(table: &[u8], names: &[u8], dialect: &[u8], errors: &mut [u32]) -> Listed
+pub fn module(
+    table: &[u8],
+    names: &[u8],
+    dialect: &[u8],
+    errors: &mut [u32],
+) -> Result<u32, Refusal>
     ensures result_value { listed result ≡ module_of table.now names.now dialect.now }
     ensures errors_after { errors.new ≡
         errors_after table.now names.now dialect.now errors.old }
 {
-    let entered = table::enter_dialect(table, names, dialect);
-    match entered {
-        Given::In(d) => Listed::Total(pass(Listing::Module, table, names, d, errors)),
-        Given::Refused(why) => Listed::Refused(why),
-    }
+    let d = table::enter_dialect(table, names, dialect)?;
+    Ok(pass(Listing::Module, table, names, d, errors))
 }
 
 // The module pass alone, for callers that have checked 1 to 5: returns the number of errors that the form of the list

@@ -17,10 +17,10 @@ ghost use Rattle.validate.specs.Params.{is_no_args, is_mark, permits, not_permit
 ghost use Rattle.validate.specs.Params.{marks, unpack_error, validate_params, with_params};
 
 use crate::Mark;
-use deflist::{Fault, Judged, Kind, entry};
+use deflist::{Fault, Kind, Params, entry};
 use dialect::Dialect;
-use errors::{Err, Listing};
-use forest::RECORD;
+use errors::{Finding, Listing};
+use forest::Nodes;
 use table::numbers;
 
 // What may not be in this dialect, then the parameters of the node that a stretch begins with.
@@ -101,18 +101,18 @@ fn unpack_error(listing: Listing, names: &[u8], t: &[u8], at: usize, errors: &mu
 {
     let judged = deflist::judge(names, t, at as u32);
     match judged {
-        Judged::Accepted(_) => 0,
-        Judged::Refused(f) => errors::push(listing, error_of(f), errors),
+        Ok(_) => 0,
+        Err(f) => errors::push(listing, error_of(f), errors),
     }
 }
 
 // A refusal of a list as an error.
-fn error_of(f: Fault) -> Err
+fn error_of(f: Fault) -> Finding
     requires { f.node < 2 ^ 32 }
     ensures { result ≡ err f.number f.node f.span }
 {
     let span = f.span;
-    Err {
+    Finding {
         number: f.number,
         node: f.node as u32,
         span: span,
@@ -145,15 +145,12 @@ fn every_mark(listing: Listing, mark: Mark, list: &[u8], at: usize, errors: &mut
     ensures { StoresFew listing (length list.now / record_bytes)
         (every_mark mark (params_in [] (forest at list.now))) errors.old result errors.new }
 {
-    let mut left = list;
-    let mut place = at;
     let mut total = 0;
-    while entry::listed(left) {
+    for (place, left) in (Params {
+        nodes: Nodes { at, left: list },
+    }) {
         let free = errors::free(listing, errors.len(), total);
         total += mark_error(listing, mark, left, place as u32, &mut errors[free..]);
-        let e = forest::span(left);
-        left = &left[e..];
-        place += e / RECORD;
     }
     total
 }

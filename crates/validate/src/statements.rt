@@ -15,7 +15,7 @@ ghost use Rattle.table.specs.Check.{Headed, Within, most_nodes};
 use crate::{Arm, Standing, params};
 use dialect::Dialect;
 use errors::Listing;
-use forest::RECORD;
+use forest::{Nodes, RECORD};
 use soundness::kinds;
 use table::numbers;
 
@@ -38,13 +38,10 @@ fn is_plain(kind: u8) -> bool
 fn has_statement(t: &[u8]) -> bool
     ensures { SaysStatement t.now result }
 {
-    let mut left = t;
-    while RECORD <= left.len() {
+    for (_, left) in (Nodes { at: 0, left: t }) {
         if is_statement(forest::kind(left)) {
             return true;
         }
-        let size = forest::span(left);
-        left = &left[size..];
     }
     false
 }
@@ -201,6 +198,7 @@ pub(crate) fn visit_stmt(
     let mut left = t;
     let mut place = at;
     let mut total = 0;
+    // no `for` over Nodes: the wrong answer only_first_statement is about what follows the first node
     while RECORD <= left.len() {
         let free = errors::free(listing, errors.len(), total);
         let e = forest::span(left);

@@ -4,23 +4,20 @@
 -- and moves on by 512 bytes (`run_on_lem`). Each function writes at the front of its buffer. So writing to a part that
 -- begins at some byte is writing to the whole from that byte on (`over_part`), and two such writes one after the
 -- other are one (`over_next`). Assumes nothing.
+use Rattle.std.specs.Prelude.{None, Option, Some, ℕ}
 use mathlib.Core.Path.{◌≡◌, refl, sym, ap, ◌∙◌}
 use mathlib.Core.Bool.{true}
-use mathlib.Core.Logic.{⊎_elim}
-use mathlib.Core.List.{List, [], ◌∷◌, ◌++◌, append_assoc}
+use mathlib.Core.List.{List, [], ◌∷◌, ◌++◌, append_assoc, append-nil}
 use Prim.Native.Nat.{ℕ, zero, suc, ◌+◌, ◌*◌, ◌-◌, ◌/◌, ◌<◌, ◌≤◌, min}
-use native.Mathlib.Nat.{add-zero}
+use native.Mathlib.Nat.{add-zero, zero-add}
 use native.Mathlib.Omega.{arith}
 use lib.ListN.{length, get_or, take, drop, set, replicate, length-append, length-take, length-drop, length-replicate}
 use lib.ListN.{get_or-replicate, get_or-append, replicate-append-replicate, drop_of_length-le}
-use lib.Seq.{take-length, drop-length, take_at, drop_at, drop-append-le, get_or-append-add}
+use lib.Seq.{length-take-le, take_all, take_at, drop_at, drop-append-le, get_or-append-add}
 use lib.Dec.{ltb}
 use borrow.Author.Tests.{ltb-true}
-use borrow.Rule.Slice.PartMut.{put_mid}
+use borrow.Rule.Slice.PartMut.{put_mid, post_of}
 use Rattle.dialect.specs.Editions.{stated_bytes}
-use Rattle.dialect.specs.declared.Stated.{Stated}
-use Rattle.dialect.specs.declared.Stated.TheVariants.{Number, Nothing}
-use Rattle.fields.proofs.Basics.{le_or_lt}
 use Rattle.fields.proofs.Fields.{tail_part}
 use Rattle.fields.specs.Field.{bytes_of}
 use Rattle.fields.specs.Over.{over}
@@ -31,7 +28,7 @@ use Rattle.blocks.specs.Run.{blocks_for, blocks_of, run_of}
 use Rattle.blocks.specs.Laid.{laid_at}
 use Rattle.blocks.proofs.Sums.{weighed_front}
 use Rattle.blocks.proofs.Laying.{laid_fits, length_laid}
-use Rattle.blocks.proofs.Blocks.{length_front, length_block, take_min}
+use Rattle.blocks.proofs.Blocks.{length_front, length_block}
 use Rattle.blocks.proofs.Runs.{blocks_more, length_run}
 use Rattle.tablefile.specs.File.{Content, header_of, file_of, most_blocks}
 use Rattle.tablefile.proofs.Copies.{drop_zeros}
@@ -130,19 +127,25 @@ module _ (number : ℕ) (content d : List ℕ) {head o₁ o₂ o₃ : List ℕ} 
       ∙ rw (check-so, four, front, take_at f rest 508 long, behind, whole)
       (sym (append_assoc f (bytes_of 4 (sum_of f)) (drop 512 d)))
 
+-- zero bytes that fill the front of a buffer
+pub zeros_over : (n : ℕ) (d : List ℕ) → n ≤ length d → {z : List ℕ} → z ≡ replicate (length (take n d)) 0
+    → z ++ post_of 0 n d ≡ over 0 (replicate n 0) d
+unfolding over
+zeros_over n d room is = rw (is, length-take-le n d room, length-replicate {A = ℕ} n 0, zero-add n) refl
+
 -- LAW: the same, written over the front of a buffer that has room for a block
 pub block_laid : (number : ℕ) (content d : List ℕ) {head o₁ o₂ o₃ : List ℕ} → length content ≤ 504 → 512 ≤ length d
-    → head ≡ bytes_of 2 number ++ bytes_of 2 (length content) → o₁ ≡ laid_at 0 (replicate 512 0) d
+    → head ≡ bytes_of 2 number ++ bytes_of 2 (length content) → o₁ ≡ over 0 (replicate 512 0) d
     → o₂ ≡ over 0 head o₁ → o₃ ≡ over 4 content o₂ → length o₃ ≡ length o₂ → length o₂ ≡ length o₁ → {sum : ℕ}
     → sum ≡ weighed (4 + length content) o₃ → {check o₄ : List ℕ} → check ≡ bytes_of 4 sum → o₄ ≡ laid_at 508 check o₃
     → o₄ ≡ over 0 (block_of number content) d
 block_laid number content d {o₃ = o₃} fits room head_is o₁-is o₂-is o₃-is long₃ long₂ {sum} is {check} check-is o₄-is =
     let zeros : length (replicate {A = ℕ} 512 0) ≡ 512 = length-replicate {A = ℕ} 512 0 in
     let four : length check ≡ 4 = ap length check-is ∙ length_bytes 4 sum in
-    let o₁-so = o₁-is ∙ laid_fits 0 (replicate 512 0) d (omega arith) in
-    let long : length o₃ ≡ length d = long₃ ∙ long₂ ∙ ap length o₁-is ∙ length_laid 0 (replicate 512 0) d in
+    let long : length o₃ ≡ length d = long₃ ∙ long₂ ∙ ap length o₁-is
+    ∙ length_over 0 (replicate 512 0) d (omega arith) in
     let o₄-so = o₄-is ∙ laid_fits 508 check o₃ (omega arith) in
-    block_whole number content d fits head_is o₁-so o₂-is o₃-is is check-is o₄-so
+    block_whole number content d fits head_is o₁-is o₂-is o₃-is is check-is o₄-so
 
 -- bytes that are written after bytes at the front
 next_over : (d a b : List ℕ) (n : ℕ) → length a ≡ n → over n b (over 0 a d) ≡ over 0 (a ++ b) d
@@ -151,9 +154,9 @@ next_over d a b n long =
     ap (λ (m : ℕ). over m b (over 0 a d)) at ∙ over_next 0 a d b
 
 -- an edition takes at most one byte
-pub stated_few : (edition : Stated) → length (stated_bytes edition) ≤ 1
-stated_few (Number n) = omega arith
-stated_few Nothing = omega arith
+pub stated_few : (edition : Option ℕ) → length (stated_bytes edition) ≤ 1
+stated_few (Some n) = omega arith
+stated_few None = omega arith
 
 -- block 0: the counts, then the dialect, then the edition
 module _ (t names ds : List ℕ) {counts : List ℕ}
@@ -179,7 +182,7 @@ module _ (t names ds : List ℕ) {counts : List ℕ}
         ∙ length_over 0 (counts ++ ds) (replicate 14 0) (omega (arith, counts_then)) ∙ zeros in
         omega arith
 
-    module _ (edition : Stated) {o₃ : List ℕ} {used : ℕ}
+    module _ (edition : Option ℕ) {o₃ : List ℕ} {used : ℕ}
         (o₃-is : o₃ ≡ over (4 + length ds) (stated_bytes edition) o₂)
         (used-is : used ≡ 4 + length ds + length (stated_bytes edition)) where
       pub header_used : used ≤ length o₃
@@ -217,8 +220,8 @@ module _ (t names ds : List ℕ) {counts : List ℕ}
       header_whole d out-is = rw header_laid at out-is
 
 -- the edition, written at its place, or none: e is the edition that the code found
-module _ (edition : Stated) where
-  module _ {n : ℕ} (e : edition ≡ Number n) where
+module _ (edition : Option ℕ) where
+  module _ {n : ℕ} (e : edition ≡ Some n) where
     pub byte_number : ltb n 256 ≡ is_byte edition
     byte_number = rw e refl
 
@@ -231,7 +234,7 @@ module _ (edition : Stated) where
     pub edition_behind : (at : ℕ) → at + 1 ≡ at + length (stated_bytes edition)
     edition_behind at = rw e refl
 
-  module _ (e : edition ≡ Nothing) where
+  module _ (e : edition ≡ None) where
     pub edition_kept : (at : ℕ) (out : List ℕ) → out ≡ over at (stated_bytes edition) out
     edition_kept at out = rw e (sym (over_none at out))
 
@@ -248,16 +251,16 @@ run_none : (number : ℕ) (left : List ℕ) → length left ≡ 0 → run_of num
 unfolding run_of blocks_of blocks_for
 run_none number left h = rw h refl
 
-drop_used : (left : List ℕ) → drop (min 504 (length left)) left ≡ drop 504 left
-drop_used left = ⊎_elim
-    (λ (h : 504 ≤ length left). let e : min 504 (length left) ≡ 504 = omega arith in rw e refl)
-    (λ (h : length left < 504).
-    let e : min 504 (length left) ≡ length left = omega arith in
-    rw (e, drop_of_length-le left {i = 504} (omega arith)) (drop-length left))
-    (le_or_lt 504 (length left))
-
-pub used_fits : (left : List ℕ) {used : ℕ} → used ≡ min 504 (length left) → length (take (used - 0) left) ≤ 504
-used_fits left used-is = simp length-take (omega arith)
+-- the first piece of what is left, and the rest
+piece_first : (piece rest : List ℕ) → length piece ≡ min 504 (length (piece ++ rest))
+    → (take 504 (piece ++ rest) ≡ piece) × (drop 504 (piece ++ rest) ≡ rest)
+piece_first piece [] few =
+    let short : length piece ≤ 504 = omega arith in
+    rw append-nil (take_all 504 piece short, drop_of_length-le piece {i = 504} short)
+piece_first piece (x ∷ more) few =
+    let all : length (piece ++ x ∷ more) ≡ length piece + suc (length more) = length-append piece (x ∷ more) in
+    let long : length piece ≡ 504 = omega arith in
+    (take_at piece (x ∷ more) 504 long, drop_at piece (x ∷ more) 504 long)
 
 -- the invariant of `write_run`: the remaining blocks, written over the buffer as it is, make the whole run
 pub record Writing (d content : List ℕ) (first : ℕ) (out left : List ℕ) (done : ℕ) : Type 0 where
@@ -277,16 +280,19 @@ run_start d content first h = record {
 
 module _ {d content : List ℕ} {first : ℕ} {out left : List ℕ} {done : ℕ}
     (s : Writing d content first out left done) where
-  pub run_end : length left ≤ 0 → out ≡ over 0 (run_of first content) d
+  pub run_end : length left ≡ 0 → out ≡ over 0 (run_of first content) d
   run_end h = sym (over_none (512 * done) out)
-      ∙ ap (λ (x : List ℕ). over (512 * done) x out) (sym (run_none (first + done) left (omega arith))) ∙ s.same
+      ∙ ap (λ (x : List ℕ). over (512 * done) x out) (sym (run_none (first + done) left h)) ∙ s.same
 
   module _ (more : 0 < length left) where
     run_room : 512 * done + 512 ≤ length out
     run_room = omega (arith, s.room, blocks_more (length left) more)
 
-    pub run_block : 512 ≤ length (take (length out - 512 * done) (drop (512 * done) out))
-    run_block = rw (tail_part (512 * done) out) (simp length-drop (omega (arith, run_room)))
+    pub run_place : {at : ℕ} → at ≡ done → 512 * at ≤ length out
+    run_place at-is = omega (arith, run_room)
+
+    pub run_block : {at : ℕ} → at ≡ done → 512 ≤ length (take (length out - 512 * at) (drop (512 * at) out))
+    run_block {at} at-is = rw (tail_part (512 * at) out) (simp length-drop (omega (arith, run_room)))
 
     -- the block that is written next, and the invariant after it
     abbrev block : List ℕ
@@ -313,21 +319,21 @@ module _ {d content : List ℕ} {first : ℕ} {out left : List ℕ} {done : ℕ}
               ∙ ap (λ (x : List ℕ). over (512 * done) x out) (sym (run_first (first + done) left more)) ∙ s.same;
         }
 
-    pub run_on_lem : {used : ℕ} → used ≡ min 504 (length left) → {ys : List ℕ}
-        → ys ≡ over 0 (block_of (first + done) (take (used - 0) (drop 0 left)))
-        (take (length out - 512 * done) (drop (512 * done) out))
-        → Writing d content first (put_mid (512 * done) (length out - 512 * done) out ys)
-        (take (length left - used) (drop used left)) (done + 1)
-    run_on_lem {used} used-is {ys} ys-is =
-        let all : used - 0 ≡ min 504 (length left) = omega arith in
-        let part : take (used - 0) (drop 0 left) ≡ take 504 left = ap (λ (n : ℕ). take n left) all
-        ∙ sym (take_min 504 (length left) left) ∙ ap (take 504) (take-length left) in
-        let after : take (length left - used) (drop used left) ≡ drop 504 left = tail_part used left
-        ∙ ap (λ (n : ℕ). drop n left) used-is ∙ drop_used left in
-        let ys_so : ys ≡ over 0 block (take (length out - 512 * done) (drop (512 * done) out)) = rw part at ys-is in
+    -- the block of the next piece, and the invariant after it
+    pub run_on_lem : {at next size : ℕ} (piece : List ℕ) {rest : List ℕ} → at ≡ done → next ≡ done + 1 → size ≡ 504
+        → left ≡ piece ++ rest → length piece ≡ min size (length left) → {ys : List ℕ}
+        → ys ≡ over 0 (block_of (first + at) piece) (take (length out - 512 * at) (drop (512 * at) out))
+        → Writing d content first (put_mid (512 * at) (length out - 512 * at) out ys) rest next
+    run_on_lem piece {rest} at-is next-is size-is is few {ys} ys-is =
+        let least : length piece ≡ min 504 (length left) = rw size-is at few in
+        let (front, after) = piece_first piece rest (rw is at least) in
+        let part : take 504 left ≡ piece = rw is front in
+        let behind : drop 504 left ≡ rest = rw is after in
+        let ys_so : ys ≡ over 0 block (take (length out - 512 * done) (drop (512 * done) out)) =
+        rw (at-is, ← part) at ys-is in
         let new : put_mid (512 * done) (length out - 512 * done) out ys ≡ over (512 * done) block out =
         over_part (512 * done) block out ys_so in
-        rw (new, after) run_next
+        rw (at-is, next-is, new) (rw behind at run_next)
 
 -- a file: block 0, the run of the names, the run of the nodes
 header_long : (c : Content) → length c.dialect ≤ 9 → length (block_of 0 (header_of c)) ≡ 512
@@ -343,7 +349,7 @@ length_file c h =
     simp (length-append, header_long c h, length_run 1 c.names, length_run first c.table) (omega arith)
 
 -- the file as three calls write it: each gets the part of the buffer from its place on
-module _ (t names ds : List ℕ) (edition : Stated) (d : List ℕ) (pre : (length ds ≤ 9) × (is_byte edition ≡ true)
+module _ (t names ds : List ℕ) (edition : Option ℕ) (d : List ℕ) (pre : (length ds ≤ 9) × (is_byte edition ≡ true)
     × (1 + blocks_for (length names) + blocks_for (length t) ≤ most_blocks)
     × (bytes_for (length t) (length names) ≤ length d)) where
   abbrev header : List ℕ

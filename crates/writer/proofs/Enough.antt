@@ -3,6 +3,7 @@
 -- nothing was cut off, both are the same; if something was, it was too long before and after the cut, and both are
 -- refused with the same number: 1 for the table, 2 for the names, 5 for the dialect (`away_alike`). A case
 -- distinction for each of the three lengths; no induction. Assumes nothing.
+use Rattle.std.specs.Prelude.{None, Option, ℕ}
 use mathlib.Core.Path.{◌≡◌, refl, sym}
 use mathlib.Core.Bool.{Bool, true, false}
 use mathlib.Core.Logic.{⊎_elim}
@@ -13,8 +14,6 @@ use lib.ListN.{length, take, length-take}
 use lib.Seq.{take_all}
 use Rattle.fields.proofs.Basics.{le_or_lt}
 use Rattle.dialect.specs.Bytes.{from_bytes}
-use Rattle.dialect.specs.declared.Decoded.TheVariants.{Invalid}
-use Rattle.dialect.specs.declared.Stated.{Stated}
 use Rattle.dialect.proofs.Laws.{other_length}
 use Rattle.table.specs.Numbers.{table_length, name_bytes, bad_dialect}
 use Rattle.table.specs.Answer.{Answer, accepted, refused}
@@ -57,15 +56,15 @@ module _ (t names ds : List ℕ) where
   long_names e h = rw (← check_names t names (sym e) refl h) refl
 
 -- ten bytes or more are never a dialect
-long_dialect : (ds : List ℕ) → 9 < length ds → from_bytes ds ≡ Invalid
+long_dialect : (ds : List ℕ) → 9 < length ds → from_bytes ds ≡ None
 long_dialect ds h = other_length ds (λ e. omega arith) (λ e. omega arith)
 
 -- the bytes that are cut off do not matter; the edition is the same
-module _ (t names ds : List ℕ) (edition : Stated) where
+module _ (t names ds : List ℕ) (edition : Option ℕ) where
   abbrev cut : List ℕ → List ℕ → List ℕ → Content
   cut t' names' ds' = holding t' names' ds' edition
 
-  bad_dialect_lem : {ds' : List ℕ} → from_bytes ds ≡ Invalid → from_bytes ds' ≡ Invalid
+  bad_dialect_lem : {ds' : List ℕ} → from_bytes ds ≡ None → from_bytes ds' ≡ None
       → Alike (cut t names ds') (cut t names ds)
   unfolding given_of
   bad_dialect_lem {ds'} e f = go (check_of t names) refl

@@ -4,6 +4,7 @@
 -- `write_refused` and `write_done` give the buffer in both cases. `write_unchecked` tests lengths only: `unfit_table`
 -- to `fit_room` follow its tests, and `Fitting` lists what they imply (`fit_says`, `says_fit`). No induction. Assumes
 -- nothing.
+use Rattle.std.specs.Prelude.{Err, None, Ok, Option, Result, Some, ℕ}
 use mathlib.Core.Path.{◌≡◌, refl, sym, ◌∙◌}
 use mathlib.Core.Bool.{Bool, true, false}
 use mathlib.Core.Logic.{⊎_elim}
@@ -18,15 +19,10 @@ use Rattle.fields.proofs.Spelling.{Bytes}
 use Rattle.dialect.specs.Editions.{stated_bytes, edition_held}
 use Rattle.dialect.specs.declared.Dialect.{Dialect}
 use Rattle.dialect.specs.declared.Edition.{Edition}
-use Rattle.dialect.specs.declared.EditionRead.{EditionRead}
-use Rattle.dialect.specs.declared.Stated.{Stated}
-use Rattle.dialect.specs.declared.Stated.TheVariants.{Number, Nothing}
 use Rattle.table.specs.Numbers.{short_buffer}
 use Rattle.table.specs.Answer.{Answer, accepted, refused, and_then, is_refused, refusal}
 use Rattle.table.specs.Check.{Ruling, by_rules, unruled, ruled, rules_of, in_rules}
 use Rattle.table.specs.declared.Refusal.{Refusal}
-use Rattle.table.specs.declared.Ruled.{Ruled}
-use Rattle.table.specs.declared.Ruled.TheVariants.{By, Refused as Away}
 use Rattle.table.proofs.Ruling.{unruled_is, by_is}
 use Rattle.blocks.specs.Run.{blocks_for}
 use Rattle.tablefile.specs.File.{Content, file_of, most_blocks}
@@ -51,9 +47,9 @@ pub record Few (c : Content) : Type 0 where
   pub dialect : length c.dialect ≤ 9
   pub edition : is_byte c.edition ≡ true
 
-byte_is : (edition : Stated) → Bytes (stated_bytes edition) → is_byte edition ≡ true
-byte_is (Number n) small = lt-ltb n 256 (small 0)
-byte_is Nothing small = refl
+byte_is : (edition : Option ℕ) → Bytes (stated_bytes edition) → is_byte edition ≡ true
+byte_is (Some n) small = lt-ltb n 256 (small 0)
+byte_is None small = refl
 
 pub sound_few : (c : Content) → sound_check c ≡ accepted [] → Few c
 unfolding blocks_for
@@ -67,16 +63,17 @@ sound_few c sound =
     }
 
 -- the returns of `judge`: x is the answer of `edition_held`, and g that of `enter_rules`
-module _ (t names ds : List ℕ) (edition : Stated) {x : EditionRead} (x-is : x ≡ edition_held ds (stated_bytes edition))
-    (g : Ruled) (g-is : ruled g ≡ rules_of t names ds x) where
+module _ (t names ds : List ℕ) (edition : Option ℕ) {x : Option Edition}
+    (x-is : x ≡ edition_held ds (stated_bytes edition))
+    (g : Result (Dialect × Edition) Refusal) (g-is : ruled g ≡ rules_of t names ds x) where
   rules_are : ruled g ≡ rules_of t names ds (edition_held ds (stated_bytes edition))
   rules_are = rw x-is at g-is
 
-  pub job_refused : (room : ℕ) {why : Refusal} → g ≡ Away why → refusal why ≡ write_of (holding t names ds edition) room
+  pub job_refused : (room : ℕ) {why : Refusal} → g ≡ Err why → refusal why ≡ write_of (holding t names ds edition) room
   unfolding write_of
   job_refused room e = rw (unruled_is t names ds (edition_held ds (stated_bytes edition)) rules_are e) refl
 
-  module _ {f : Dialect} {n : Edition} (e : g ≡ By f n) where
+  module _ {p : Dialect × Edition} (e : g ≡ Ok p) where
     passed : sound_check (holding t names ds edition) ≡ accepted []
     passed = rw (by_is t names ds (edition_held ds (stated_bytes edition)) rules_are e) refl
 
@@ -120,7 +117,7 @@ module _ (c : Content) (room : ℕ) where
           record { sound = sound; few = sound_few c sound; fits = fits; answer = sound_accepted sound fits }
 
 -- the returns of `write`: a is its judgement, q whether that is a refusal
-module _ (t names ds : List ℕ) (edition : Stated) (file : List ℕ) {a : Answer}
+module _ (t names ds : List ℕ) (edition : Option ℕ) (file : List ℕ) {a : Answer}
     (a-is : a ≡ write_of (holding t names ds edition) (length file)) {q : Bool} (q-is : q ≡ is_refused a) where
   pub write_refused : q ≡ true → file ≡ file_after (holding t names ds edition) file
   write_refused h = rw (← a-is) (kept a (sym q-is ∙ h))
@@ -150,7 +147,7 @@ module _ (t names ds : List ℕ) (edition : Stated) (file : List ℕ) {a : Answe
     write_done after_is = rw says.answer after_is
 
 -- the returns of `fits`: each length that is too large, then the edition and the room
-module _ (t n d : ℕ) (edition : Stated) (room : ℕ) where
+module _ (t n d : ℕ) (edition : Option ℕ) (room : ℕ) where
   pub unfit_table : 50400 < t → false ≡ fits_in t n d edition room
   unfolding fits_in
   unfit_table h = rw (lt-leb t 50400 h) refl
@@ -189,14 +186,14 @@ module _ (t n d : ℕ) (edition : Stated) (room : ℕ) where
             rw (k_is, m_is, le-leb t 50400 few, le-leb n 8064 named, le-leb d 9 nine, ← q-is, h) refl
 
 -- LAW: what the test of `write_unchecked` implies
-pub record Fitting (t n d : ℕ) (edition : Stated) (room : ℕ) : Type 0 where
+pub record Fitting (t n d : ℕ) (edition : Option ℕ) (room : ℕ) : Type 0 where
   pub few : t ≤ 50400
   pub named : n ≤ 8064
   pub nine : d ≤ 9
   pub byte : is_byte edition ≡ true
   pub there : bytes_for t n ≤ room
 
-module _ (t n d : ℕ) (edition : Stated) (room : ℕ) where
+module _ (t n d : ℕ) (edition : Option ℕ) (room : ℕ) where
   pub fit_says : fits_in t n d edition room ≡ true → Fitting t n d edition room
   unfolding fits_in
   fit_says e =
@@ -221,14 +218,14 @@ module _ (t n d : ℕ) (edition : Stated) (room : ℕ) where
     le-leb (bytes_for t n) room f.there,
   ) refl
 
-pub fit_writes : (t n d : ℕ) (edition : Stated) (room : ℕ) {q : Bool} → q ≡ fits_in t n d edition room → q ≡ true
+pub fit_writes : (t n d : ℕ) (edition : Option ℕ) (room : ℕ) {q : Bool} → q ≡ fits_in t n d edition room → q ≡ true
     → (d ≤ 9) × (is_byte edition ≡ true) × (1 + blocks_for n + blocks_for t ≤ most_blocks) × (bytes_for t n ≤ room)
 unfolding blocks_for
 fit_writes t n d edition room q-is e =
     let f = fit_says t n d edition room (sym q-is ∙ e) in
     (f.nine, f.byte, omega (arith, f.few, f.named), f.there)
 
-module _ (t names ds : List ℕ) (edition : Stated) (buffer : List ℕ) {q : Bool}
+module _ (t names ds : List ℕ) (edition : Option ℕ) (buffer : List ℕ) {q : Bool}
     (q-is : q ≡ fits_in (length t) (length names) (length ds) edition (length buffer)) where
   pub unfit_keeps : q ≡ false → buffer ≡ laid_over (holding t names ds edition) buffer
   unfolding laid_over

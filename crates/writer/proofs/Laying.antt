@@ -1,20 +1,48 @@
 -- Laws of `lay`, the loop that copies bytes into a block and adds their weights to the sum. One invariant, `Laying`,
--- has two parts: the bytes are copied as in the loop of blocks (`Putting`), and the sum is that of all places up to
+-- has two parts: the first i bytes are pasted over the old block (`Putting`), and the sum is that of all places up to
 -- the last copied one (`Summed`). A byte that is stored at place at + i does not change the sum of the places before
 -- it, so each turn extends both parts by one place (`lay_on`). At the end the bytes are in the block (`lay_end`) and
 -- weighed (`lay_sum`). Assumes nothing.
 use mathlib.Core.Path.{◌≡◌, sym, ap, ◌∙◌}
-use mathlib.Core.List.{List}
+use mathlib.Core.List.{List, append_assoc}
 use Prim.Native.Nat.{ℕ, ◌+◌, ◌*◌, ◌<◌, ◌≤◌, ◌^◌}
 use native.Mathlib.Nat.{add-zero}
+use native.Mathlib.Numerals.{add-one}
 use native.Mathlib.Omega.{arith}
-use lib.ListN.{length, get_or, set}
-use lib.Seq.{get_or-set_same}
+use lib.ListN.{length, get_or, take, drop, set}
+use lib.Seq.{get_or-set_same, paste, paste-zero, paste-suc, length-paste, take-length}
 use Rattle.fields.specs.Over.{over}
 use Rattle.fields.proofs.Spelling.{Bytes, bytes_set}
 use Rattle.blocks.specs.Block.{weight_of, weighed}
 use Rattle.blocks.proofs.Sums.{Summed, weighed_outside, weighed_small, weight_small, sum_on}
-use Rattle.blocks.proofs.Laying.{Putting, put_start, put_long, put_on, put_end}
+
+-- out has the first i of the bytes from place `at` on; every other byte is that of d
+pub record Putting (d bytes : List ℕ) (at : ℕ) (out : List ℕ) (i : ℕ) : Type 0 where
+  pub upto : i ≤ length bytes
+  pub room : at + length bytes ≤ length d
+  pub is : out ≡ paste d at bytes i
+
+put_start : (d bytes : List ℕ) (at : ℕ) → at + length bytes ≤ length d → Putting d bytes at d 0
+put_start d bytes at h = record { upto = omega arith; room = h; is = paste-zero d at bytes }
+
+module _ {d bytes : List ℕ} {at : ℕ} {out : List ℕ} {i : ℕ} (s : Putting d bytes at out i) where
+  put_long : length out ≡ length d
+  put_long = ap length s.is
+      ∙ length-paste d at bytes i (omega (arith, s.upto, s.room)) s.upto
+
+  put_on : i < length bytes → {x : ℕ} → x ≡ get_or bytes i 0 → Putting d bytes at (set out (at + i) x) (i + 1)
+  put_on h x-is = record {
+    upto = omega arith;
+    room = s.room;
+    is = rw (s.is, x-is, add-one i) (paste-suc d at bytes i 0 (omega (arith, s.room)) h);
+  }
+
+  put_end : length bytes ≤ i → out ≡ over at bytes d
+  unfolding over
+  put_end h =
+      let e : i ≡ length bytes = omega (arith, s.upto) in
+      let is : out ≡ paste d at bytes (length bytes) = rw e at s.is in
+      is ∙ rw (take-length bytes) (append_assoc (take at d) bytes (drop (at + length bytes) d))
 
 -- the first i bytes are copied, and the sum covers them and the places before them
 pub record Laying (d bytes : List ℕ) (at : ℕ) (out : List ℕ) (sum i : ℕ) : Type 0 where

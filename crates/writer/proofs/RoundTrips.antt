@@ -4,6 +4,7 @@
 -- are passed, it is refused exactly if the blocks do not fit, with 7. A refusal changes no byte, and bytes past the
 -- blocks always stay. An accepted answer leaves the file of the content (`Says` of Jobs), and that file reads back
 -- (tablefile's theorems); each claim is a step from there. Assumes nothing.
+use Rattle.std.specs.Prelude.{Err, Ok, Result, ℕ}
 use mathlib.Core.Path.{◌≡◌, refl, sym, ap, ◌∙◌}
 use mathlib.Core.List.{List, [], ◌∷◌, ◌++◌}
 use Prim.Native.Nat.{ℕ, ◌*◌, ◌<◌, ◌≤◌}
@@ -22,25 +23,22 @@ use Rattle.tablefile.specs.Reading.{content_at, sound_check, read_check}
 use Rattle.tablefile.specs.Lending.{into_check, handed}
 use Rattle.tablefile.specs.Loading.{loaded_of, held}
 use Rattle.tablefile.specs.declared.Loaded.{Loaded}
-use Rattle.tablefile.specs.declared.Verdict.TheVariants as verdicts
 use Rattle.tablefile.proofs.Loads.{held_is}
 use Rattle.tablefile.proofs.Accepted.{SoundContent, back_holds, back_accepted}
 use Rattle.tablefile.proofs.Lends.{into_passed}
 use Rattle.tablefile.proofs.Theorems.{Read, accepted_is_file, accepted_is_sound, file_read_back}
-use Rattle.writer.specs.declared.Written.{Written}
-use Rattle.writer.specs.declared.Written.TheVariants.{Accepted, Refused}
 use Rattle.writer.specs.Writing.{bytes_for, write_of, file_after, written}
 use Rattle.writer.proofs.Building.{length_file}
 use Rattle.writer.proofs.Jobs.{Says, passed_says, sound_few, sound_accepted}
 use Rattle.writer.proofs.Promises.{written_injective}
 
 -- the promise of `write`, called with the parts of a content: the answer, and the buffer at exit
-abbrev pub Write : Content → List ℕ → Written → List ℕ → Type 0
+abbrev pub Write : Content → List ℕ → Result ℕ Refusal → List ℕ → Type 0
 Write c buffer r after = (written r ≡ write_of c (length buffer)) × (after ≡ file_after c buffer)
 
-module _ (c : Content) (buffer : List ℕ) (r : Written) (after : List ℕ) (w : Write c buffer r after) where
+module _ (c : Content) (buffer : List ℕ) (r : Result ℕ Refusal) (after : List ℕ) (w : Write c buffer r after) where
   -- what an accepted write implies, and what it leaves
-  module _ {n : ℕ} (good : r ≡ Accepted n) where
+  module _ {n : ℕ} (good : r ≡ Ok n) where
     answer_is : write_of c (length buffer) ≡ accepted (n ∷ [])
     answer_is = sym w.0 ∙ ap written good
 
@@ -49,11 +47,11 @@ module _ (c : Content) (buffer : List ℕ) (r : Written) (after : List ℕ) (w :
 
     pub written_length : n ≡ length (file_of c)
     written_length =
-        let same : Accepted n ≡ Accepted (bytes_for (length c.table) (length c.names)) =
+        let same : ◌≡◌ {A = Result ℕ Refusal} (Ok n) (Ok (bytes_for (length c.table) (length c.names))) =
         written_injective _ _ (sym answer_is ∙ says.answer) in
         value same ∙ sym (length_file c says.few.dialect)
       where
-        value : {a b : ℕ} → Accepted a ≡ Accepted b → a ≡ b
+        value : {a b : ℕ} → ◌≡◌ {A = Result ℕ Refusal} (Ok a) (Ok b) → a ≡ b
         value e = cc
 
     -- LAW: the buffer is the file and then the old bytes
@@ -75,16 +73,16 @@ module _ (c : Content) (buffer : List ℕ) (r : Written) (after : List ℕ) (w :
         }
 
         module _ (s : Loaded) (read : Read (take n after) s) where
-          pub reads_back : s ≡ loaded_of verdicts.Accepted c n
+          pub reads_back : s ≡ loaded_of (Ok tt) c n
           reads_back =
               let read' : Read (file_of c) s = rw written_front at read in
-              file_read_back c s sound_content read' ∙ ap (loaded_of verdicts.Accepted c) (sym written_length)
+              file_read_back c s sound_content read' ∙ ap (loaded_of (Ok tt) c) (sym written_length)
 
           pub same_content : held s ≡ c
           same_content = ap held reads_back ∙ held_is c n
 
           -- THEOREM: so the reader does not refuse it
-          pub not_refused : s.verdict ≡ verdicts.Accepted
+          pub not_refused : s.verdict ≡ Ok tt
           unfolding loaded_of
           not_refused = ap (λ (l : Loaded). l.verdict) reads_back
 
@@ -116,9 +114,9 @@ module _ (c : Content) (buffer : List ℕ) (r : Written) (after : List ℕ) (w :
     past_stays = ap (drop n) written_is ∙ drop_at (file_of c) (drop n buffer) n (sym written_length)
 
   -- LAW: a refusal changes no byte
-  pub refusal_keeps : {why : Refusal} → r ≡ Refused why → after ≡ buffer
+  pub refusal_keeps : {why : Refusal} → r ≡ Err why → after ≡ buffer
   refusal_keeps {why} e =
-      let told : write_of c (length buffer) ≡ written (Refused why) = sym w.0 ∙ ap written e in
+      let told : write_of c (length buffer) ≡ written (Err why) = sym w.0 ∙ ap written e in
       w.1 ∙ rw told refl
 
   -- LAW: if 1 to 5 are passed, it is refused exactly if the blocks do not fit, with 7
@@ -126,13 +124,13 @@ module _ (c : Content) (buffer : List ℕ) (r : Written) (after : List ℕ) (w :
     abbrev size : ℕ
     size = bytes_for (length c.table) (length c.names)
 
-    pub short_is_7 : length buffer < size → r ≡ Refused (Bare short_buffer)
+    pub short_is_7 : length buffer < size → r ≡ Err (Bare short_buffer)
     unfolding write_of
-    short_is_7 h = written_injective r (Refused (Bare short_buffer))
+    short_is_7 h = written_injective r (Err (Bare short_buffer))
         (w.0 ∙ rw (sound, lt-leb size (length buffer) h) refl)
 
-    pub fits_is_accepted : size ≤ length buffer → r ≡ Accepted size
-    fits_is_accepted h = written_injective r (Accepted size) (w.0 ∙ sound_accepted c (length buffer) sound h)
+    pub fits_is_accepted : size ≤ length buffer → r ≡ Ok size
+    fits_is_accepted h = written_injective r (Ok size) (w.0 ∙ sound_accepted c (length buffer) sound h)
 
     -- LAW: 59,904 bytes are never too short
     pub never_too_short : size ≤ 512 * most_blocks
@@ -140,8 +138,8 @@ module _ (c : Content) (buffer : List ℕ) (r : Written) (after : List ℕ) (w :
 
 -- THEOREM: a file that the reader accepts, written again from the reader's answer, gives the same bytes: with no
 -- dialect, with a dialect, and with a dialect and an edition
-module _ (file : List ℕ) (s : Loaded) (small : Bytes file) (read : Read file s) (good : s.verdict ≡ verdicts.Accepted)
-    (buffer : List ℕ) (r : Written) (after : List ℕ) (w : Write (held s) buffer r after) where
+module _ (file : List ℕ) (s : Loaded) (small : Bytes file) (read : Read file s) (good : s.verdict ≡ Ok tt)
+    (buffer : List ℕ) (r : Result ℕ Refusal) (after : List ℕ) (w : Write (held s) buffer r after) where
   is_file : file ≡ file_of (held s)
   is_file = accepted_is_file file s small read good
 
@@ -152,10 +150,10 @@ module _ (file : List ℕ) (s : Loaded) (small : Bytes file) (read : Read file s
   file_size = ap length is_file ∙ length_file (held s) (sound_few (held s) is_sound).dialect
 
   pub written_again : length file ≤ length buffer
-      → (r ≡ Accepted (length file)) × (after ≡ file ++ drop (length file) buffer)
+      → (r ≡ Ok (length file)) × (after ≡ file ++ drop (length file) buffer)
   written_again h =
-      let fits : r ≡ Accepted (length file) =
-      fits_is_accepted (held s) buffer r after w is_sound (rw file_size at h) ∙ ap Accepted (sym file_size) in (
+      let fits : r ≡ Ok (length file) =
+      fits_is_accepted (held s) buffer r after w is_sound (rw file_size at h) ∙ ap Ok (sym file_size) in (
         fits,
         written_is (held s) buffer r after w fits
             ∙ ap (λ (x : List ℕ). x ++ drop (length file) buffer) (sym is_file),

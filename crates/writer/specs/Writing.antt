@@ -1,7 +1,6 @@
 -- Writing a table file (docs/FORMAT.md, a table file): the job's answer, and the buffer at exit. These are definitions.
-use Rattle.std.specs.Prelude.{Bool, true, ◌&&◌, List, [], ◌∷◌, ℕ, ◌+◌, ◌*◌, length, leb, ltb}
-use Rattle.dialect.specs.declared.Stated.{Stated}
-use Rattle.dialect.specs.declared.Stated.TheVariants.{Number, Nothing}
+use Rattle.std.specs.Prelude.{Bool, true, ◌&&◌, List, [], ◌∷◌, ℕ, ◌+◌, ◌*◌, length, leb, ltb, Err, None, Ok, Option, Result, Some}
+use Rattle.table.specs.declared.Refusal.{Refusal}
 use Rattle.fields.specs.Choice.{if'}
 use Rattle.fields.specs.Over.{over}
 use Rattle.table.specs.Numbers.{short_buffer}
@@ -11,11 +10,9 @@ use Rattle.blocks.specs.Block.{block_bytes}
 use Rattle.blocks.specs.Run.{blocks_for}
 use Rattle.tablefile.specs.File.{Content, file_of}
 use Rattle.tablefile.specs.Reading.{sound_check}
-use Rattle.writer.specs.declared.Written.{Written}
-use Rattle.writer.specs.declared.Written.TheVariants.{Accepted, Refused}
 
 -- the content to write: a table, names, none or nine dialect bytes, and the number of an edition or nothing
-abbrev pub holding : List ℕ → List ℕ → List ℕ → Stated → Content
+abbrev pub holding : List ℕ → List ℕ → List ℕ → Option ℕ → Content
 holding t names bytes edition = record { table = t; names = names; dialect = bytes; edition = edition }
 
 -- the length of the file, given the lengths of table and names: 512 for block 0 and for each block of names and nodes
@@ -39,12 +36,12 @@ abbrev pub file_after : Content → List ℕ → List ℕ
 file_after c buffer = afterwards (write_of c (length buffer)) (file_of c) buffer
 
 -- an edition takes no byte or one
-abbrev pub is_byte : Stated → Bool
-is_byte (Number n) = ltb n 256
-is_byte Nothing = true
+abbrev pub is_byte : Option ℕ → Bool
+is_byte (Some n) = ltb n 256
+is_byte None = true
 
 -- a table, names and dialect bytes of these lengths, and an edition, make a file, and it fits in `room` bytes
-unfoldable pub fits_in : ℕ → ℕ → ℕ → Stated → ℕ → Bool
+unfoldable pub fits_in : ℕ → ℕ → ℕ → Option ℕ → ℕ → Bool
 fits_in table names bytes edition room =
     leb table most_bytes
     && (leb names most_names && (leb bytes 9 && (is_byte edition && leb (bytes_for table names) room)))
@@ -56,6 +53,6 @@ laid_over c buffer =
     (λ _. over 0 (file_of c) buffer) (λ _. buffer)
 
 -- the meaning of the code's answers
-abbrev pub written : Written → Answer
-written (Accepted n) = accepted (n ∷ [])
-written (Refused r) = refusal r
+abbrev pub written : Result ℕ Refusal → Answer
+written (Ok n) = accepted (n ∷ [])
+written (Err r) = refusal r

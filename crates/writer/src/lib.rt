@@ -12,17 +12,9 @@ ghost use Rattle.tablefile.specs.File.{header_of, file_of, most_blocks};
 ghost use Rattle.writer.specs.Writing.{holding, bytes_for, room_check, write_of, file_after, fits_in, laid_over};
 ghost use Rattle.writer.specs.Writing.{is_byte, written};
 
-use blocks::{BLOCK_BYTES, bytes};
-use dialect::Stated;
+use blocks::{BLOCK_BYTES, CONTENT_BYTES, bytes};
 use forest::RECORD;
-use table::{MOST_BYTES, MOST_NAMES, Refusal, Ruled, numbers};
-
-// The answer of the job: the number of bytes written, a multiple of 512, or why it is refused.
-#[derive(Clone, Copy)]
-pub enum Written {
-    Accepted(u32),
-    Refused(Refusal),
-}
+use table::{MOST_BYTES, MOST_NAMES, Refusal, numbers};
 
 // Writes the file of a table, its names, nine dialect bytes or none, and the number of an edition or nothing. Refuses
 // with 1 to 5, then with 7 if the buffer is shorter than the file. An edition without a dialect is 5. A refusal changes
@@ -31,9 +23,9 @@ pub fn write(
     table: &[u8],
     names: &[u8],
     dialect: &[u8],
-    edition: Stated,
+    edition: Option<u32>,
     file: &mut [u8],
-) -> Written
+) -> Result<u32, Refusal>
     ensures result_value { written result ≡
         write_of (holding table.now names.now dialect.now edition)
         (length file.old) }
@@ -51,7 +43,13 @@ pub fn write(
 
 // Writes the file of a table, names, dialect bytes and an edition that have passed 1 to 5: they are not checked again.
 // If they are longer than in any file, or the buffer is shorter than the file, no byte changes.
-pub fn write_unchecked(table: &[u8], names: &[u8], dialect: &[u8], edition: Stated, file: &mut [u8])
+pub fn write_unchecked(
+    table: &[u8],
+    names: &[u8],
+    dialect: &[u8],
+    edition: Option<u32>,
+    file: &mut [u8],
+)
     ensures { file.new ≡
         laid_over (holding table.now names.now dialect.now edition)
         file.old }
@@ -63,7 +61,7 @@ pub fn write_unchecked(table: &[u8], names: &[u8], dialect: &[u8], edition: Stat
 }
 
 // Whether a table, names and dialect bytes of these lengths, and an edition, make a file, and it fits in `room` bytes.
-fn fits(table: usize, names: usize, dialect: usize, edition: Stated, room: usize) -> bool
+fn fits(table: usize, names: usize, dialect: usize, edition: Option<u32>, room: usize) -> bool
     ensures { result ≡ fits_in table names dialect edition room }
 {
     if MOST_BYTES < table {
@@ -83,56 +81,56 @@ fn fits(table: usize, names: usize, dialect: usize, edition: Stated, room: usize
 }
 
 // Whether an edition takes no byte or one.
-fn is_byte(edition: Stated) -> bool
+fn is_byte(edition: Option<u32>) -> bool
     ensures { result ≡ is_byte edition }
 {
     match edition {
-        Stated::Number(number) => number < 256,
-        Stated::Nothing => true,
+        Some(number) => number < 256,
+        None => true,
     }
 }
 
 // Judges what is to be written: 1 to 5, then 7 for a buffer of `room` bytes.
-fn judge(table: &[u8], names: &[u8], dialect: &[u8], edition: Stated, room: usize) -> Written
+fn judge(
+    table: &[u8],
+    names: &[u8],
+    dialect: &[u8],
+    edition: Option<u32>,
+    room: usize,
+) -> Result<u32, Refusal>
     ensures { written result ≡
         write_of (holding table.now names.now dialect.now edition) room }
 {
     let read = dialect::edition_held(dialect, edition);
-    let entered = table::enter_rules(table, names, dialect, read);
-    match entered {
-        Ruled::By {
-            dialect: _,
-            edition: _,
-        } => room_for(table.len(), names.len(), room),
-        Ruled::Refused(why) => Written::Refused(why),
-    }
+    table::enter_rules(table, names, dialect, read)?;
+    room_for(table.len(), names.len(), room)
 }
 
 // The length of the file, given the lengths of table and names, or 7 if the buffer is shorter.
-fn room_for(table: usize, names: usize, room: usize) -> Written
+fn room_for(table: usize, names: usize, room: usize) -> Result<u32, Refusal>
     requires { 1 + blocks_for names + blocks_for table ≤ most_blocks }
     ensures { written result ≡ room_check (bytes_for table names) room }
 {
     let first = 1 + blocks::blocks_for(names);
     let size = BLOCK_BYTES * (first + blocks::blocks_for(table));
     if room < size {
-        return Written::Refused(Refusal::Bare(numbers::SHORT_BUFFER));
+        return Err(Refusal::Bare(numbers::SHORT_BUFFER));
     }
-    Written::Accepted(size as u32)
+    Ok(size as u32)
 }
 
 // Whether an answer is a refusal.
-fn is_refused(answer: Written) -> bool
+fn is_refused(answer: Result<u32, Refusal>) -> bool
     ensures { result ≡ is_refused (written answer) }
 {
     match answer {
-        Written::Accepted(_) => false,
-        Written::Refused(_) => true,
+        Ok(_) => false,
+        Err(_) => true,
     }
 }
 
 // Writes the file at the front of a buffer: block 0, the blocks of the names, then those of the nodes.
-fn write_file(table: &[u8], names: &[u8], dialect: &[u8], edition: Stated, file: &mut [u8])
+fn write_file(table: &[u8], names: &[u8], dialect: &[u8], edition: Option<u32>, file: &mut [u8])
     requires { (length dialect.now ≤ 9)
         × (is_byte edition ≡ true)
         × (1 + blocks_for (length names.now) + blocks_for (length table.now) ≤ most_blocks)
@@ -150,7 +148,7 @@ fn write_file(table: &[u8], names: &[u8], dialect: &[u8], edition: Stated, file:
 
 // Writes block 0 at the front of some bytes: the node count, the name byte count, and the dialect and the edition if
 // there are any.
-fn write_header(table: &[u8], names: &[u8], dialect: &[u8], edition: Stated, out: &mut [u8])
+fn write_header(table: &[u8], names: &[u8], dialect: &[u8], edition: Option<u32>, out: &mut [u8])
     requires { (length dialect.now ≤ 9) × (is_byte edition ≡ true) × (block_bytes ≤ length out.old) }
     ensures { out.new
         ≡ over 0
@@ -166,17 +164,17 @@ fn write_header(table: &[u8], names: &[u8], dialect: &[u8], edition: Stated, out
 }
 
 // Writes an edition, if there is one, at a place of block 0's content, and returns the place after it.
-fn put_edition(edition: Stated, at: usize, out: &mut [u8]) -> usize
+fn put_edition(edition: Option<u32>, at: usize, out: &mut [u8]) -> usize
     requires { (is_byte edition ≡ true) × (at < length out.old) }
     ensures out_after { out.new ≡ over at (stated_bytes edition) out.old }
     ensures value { result ≡ at + length (stated_bytes edition) }
 {
     match edition {
-        Stated::Number(number) => {
+        Some(number) => {
             out[at] = number as u8;
             at + 1
         }
-        Stated::Nothing => at,
+        None => at,
     }
 }
 
@@ -186,14 +184,9 @@ fn write_run(first: usize, content: &[u8], out: &mut [u8])
     requires { (block_bytes * blocks_for (length content.now) ≤ length out.old) × (first ≤ most_blocks) }
     ensures { out.new ≡ over 0 (run_of first content.now) out.old }
 {
-    let mut left = content;
-    let mut done = 0;
-    while 0 < left.len() {
-        let used = blocks::used_here(left.len());
+    for (done, piece) in content.chunks(CONTENT_BYTES).enumerate() {
         let at = BLOCK_BYTES * done;
-        write_block(first + done, &left[0..used], &mut out[at..]);
-        left = &left[used..];
-        done += 1;
+        write_block(first + done, piece, &mut out[at..]);
     }
 }
 
@@ -203,8 +196,7 @@ fn write_block(number: usize, content: &[u8], out: &mut [u8])
     requires { (length content.now ≤ content_bytes) × (block_bytes ≤ length out.old) }
     ensures { out.new ≡ over 0 (block_of number content.now) out.old }
 {
-    let zeros = [0u8; BLOCK_BYTES];
-    bytes::put(&zeros, 0, out);
+    out[0..BLOCK_BYTES].fill(0);
     let head = bytes::pair(number, content.len());
     let begun = lay(&head, 0, 0, out);
     let sum = lay(content, 4, begun, out);
@@ -219,12 +211,10 @@ fn lay(bytes: &[u8], at: usize, before: u32, out: &mut [u8]) -> u32
     ensures value { result ≡ weighed (at + length bytes.now) out.new }
 {
     let mut sum = before;
-    let mut i = 0;
-    while i < bytes.len() {
+    for (i, x) in bytes.iter().enumerate() {
         let p = at + i;
-        out[p] = bytes[i];
-        sum += blocks::weight(p as u16, bytes[i]);
-        i += 1;
+        out[p] = *x;
+        sum += blocks::weight(p as u16, *x);
     }
     sum
 }

@@ -2,5 +2,5 @@
 use Rattle.arguments.proofs.Steps.{new_found}
 use Rattle.arguments.proofs.new_name.Goals as goal
 
-pub returns-in-At : goal.returns-in-At
-returns-in-At c = search new_found
+pub returns-in-Some : goal.returns-in-Some
+returns-in-Some c = search new_found

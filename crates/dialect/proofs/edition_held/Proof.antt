@@ -1,29 +1,27 @@
 -- `dialect::edition_held` meets its contract: no edition, one without dialect bytes, and one behind them are the cases
 -- of `edition_held`. Assumes nothing.
+use Rattle.std.specs.Prelude.{None, Option, Some, ℕ}
+use Rattle.dialect.specs.declared.Edition.{Edition}
 use mathlib.Core.Path.{◌≡◌, sym, ◌∙◌}
 use mathlib.Core.List.{List}
 use Prim.Native.Nat.{ℕ}
 use lib.ListN.{length}
 use borrow.Author.Rules.{rules}
 use Rattle.dialect.specs.declared.Edition.TheVariants.{One}
-use Rattle.dialect.specs.declared.EditionRead.{EditionRead}
-use Rattle.dialect.specs.declared.EditionRead.TheVariants.{Known, Unknown}
-use Rattle.dialect.specs.declared.Stated.{Stated}
-use Rattle.dialect.specs.declared.Stated.TheVariants.{Number, Nothing}
 use Rattle.dialect.specs.Editions.{edition_of, stated_bytes, edition_held}
 use Rattle.dialect.proofs.Editions.{held_none, held_alone, held_number}
 use Rattle.dialect.proofs.edition_held.Statement.{statement}
 use Rattle.dialect.proofs.edition_held.Tie as tie
 
-module _ (bytes : List ℕ) (stated : Stated) where
-  told_none : stated ≡ Nothing → Known One ≡ edition_held bytes (stated_bytes stated)
+module _ (bytes : List ℕ) (stated : Option ℕ) where
+  told_none : stated ≡ None → Some One ≡ edition_held bytes (stated_bytes stated)
   told_none h = rw h (sym (held_none bytes))
 
-  module _ {n : ℕ} (h : stated ≡ Number n) where
-    told_alone : length bytes ≡ 0 → Unknown ≡ edition_held bytes (stated_bytes stated)
+  module _ {n : ℕ} (h : stated ≡ Some n) where
+    told_alone : length bytes ≡ 0 → None ≡ edition_held bytes (stated_bytes stated)
     told_alone empty = rw h (sym (held_alone bytes n empty))
 
-    told_number : (length bytes ≡ 0 → ⊥) → {r : EditionRead} → r ≡ edition_of n
+    told_number : (length bytes ≡ 0 → ⊥) → {r : Option Edition} → r ≡ edition_of n
         → r ≡ edition_held bytes (stated_bytes stated)
     told_number some r-is = r-is ∙ rw h (sym (held_number bytes n some))
 

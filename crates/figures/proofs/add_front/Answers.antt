@@ -3,12 +3,12 @@ use Rattle.figures.proofs.Windows.{window_refused, window_fits, window_table_lon
 use Rattle.figures.proofs.Windows.{window_answer, window_figures}
 use Rattle.figures.proofs.add_front.Goals as goal
 
-pub returns-in-Refused : goal.returns-in-Refused
-returns-in-Refused c =
+pub returns-in-Err : goal.returns-in-Err
+returns-in-Err c =
     let unpack = c.unpack-unpacked in
     let front = c.front-file in
     let header = c.header-h in
-    let all = window_refused _ header.ensures front.ensures _ unpack.ensures.result_value c.in-Refused.is
+    let all = window_refused _ header.ensures front.ensures _ unpack.ensures.result_value c.in-Err.is
     c.number.ensures _ in record { value = all.0; figures_after = all.1 }
 
 pub slice_bounds-front-end : goal.slice_bounds-front-end

@@ -2,8 +2,8 @@
 use Rattle.figures.proofs.Windows.{answer_sound, answer_refused}
 use Rattle.figures.proofs.answer.Goals as goal
 
-pub returns-in-Sound : goal.returns-in-Sound
-returns-in-Sound c = search answer_sound
+pub returns-in-Ok : goal.returns-in-Ok
+returns-in-Ok c = search answer_sound
 
-pub returns-in-Refused : goal.returns-in-Refused
-returns-in-Refused c = search answer_refused
+pub returns-in-Err : goal.returns-in-Err
+returns-in-Err c = search answer_refused

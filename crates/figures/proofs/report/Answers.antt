@@ -13,7 +13,7 @@ overflow_add-at c =
     let loop-test = c.loop-at-test in
     let loop = c.loop-at in
     let fits = run_fits loop.invariant loop-test.true c.step-stepped.ensures.value c.step-stepped.ensures.figures_after
-    c.in-Taken.is in
+    c.in-Ok.is in
     search rules
 
 pub loop-at-smaller : goal.loop-at-smaller
@@ -21,7 +21,7 @@ loop-at-smaller c =
     let loop-test = c.loop-at-test in
     let loop = c.loop-at in
     let fits = run_fits loop.invariant loop-test.true c.step-stepped.ensures.value c.step-stepped.ensures.figures_after
-    c.in-Taken.is in
+    c.in-Ok.is in
     omega (arith, fits)
 
 pub loop-at-preserved : goal.loop-at-preserved
@@ -29,14 +29,14 @@ loop-at-preserved c =
     let loop-test = c.loop-at-test in
     let loop = c.loop-at in
     run_on_lem loop.invariant loop-test.true c.step-stepped.ensures.value c.step-stepped.ensures.figures_after
-    c.in-Taken.is
+    c.in-Ok.is
 
-pub returns-in-Refused : goal.returns-in-Refused
-returns-in-Refused c =
+pub returns-in-Err : goal.returns-in-Err
+returns-in-Err c =
     let loop-test = c.loop-at-test in
     let loop = c.loop-at in
     run_stop loop.invariant loop-test.true c.step-stepped.ensures.value c.step-stepped.ensures.figures_after
-    c.in-Refused.is
+    c.in-Err.is
 
 pub returns : goal.returns
 returns c = run_end c.loop-at.invariant c.loop-at-test.false

@@ -2,10 +2,10 @@
 use Rattle.filepass.proofs.Listing.{file_refused, file_small, file_passes}
 use Rattle.filepass.proofs.check_file.Goals as goal
 
-pub returns-in-Refused : goal.returns-in-Refused
-returns-in-Refused c =
+pub returns-in-Err : goal.returns-in-Err
+returns-in-Err c =
     let judge = c.judge_file-judged in
-    let all = file_refused _ _ judge.ensures _ c.in-Refused.is in
+    let all = file_refused _ _ judge.ensures _ c.in-Err.is in
     record { result_value = all.0; errors_after = all.1 }
 
 pub check_few-requires : goal.check_few-requires

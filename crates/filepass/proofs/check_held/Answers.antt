@@ -6,8 +6,8 @@ use Rattle.filepass.proofs.check_held.Goals as goal
 pub overflow_mul-h : goal.overflow_mul-h
 overflow_mul-h c = search into_fits
 
-pub returns-in-Unknown : goal.returns-in-Unknown
-returns-in-Unknown c = search (bad_answer, bad_words)
+pub returns-in-None : goal.returns-in-None
+returns-in-None c = search (bad_answer, bad_words)
 
 pub overflow_cast-h : goal.overflow_cast-h
 overflow_cast-h c = search nodes_word

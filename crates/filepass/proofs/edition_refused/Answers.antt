@@ -2,8 +2,8 @@
 use Rattle.filepass.proofs.Listing.{refused_sound, refused_unsound}
 use Rattle.filepass.proofs.edition_refused.Goals as goal
 
-pub returns-in-Sound : goal.returns-in-Sound
-returns-in-Sound c = search refused_sound
+pub returns-in-Ok : goal.returns-in-Ok
+returns-in-Ok c = search refused_sound
 
-pub returns-in-Refused : goal.returns-in-Refused
-returns-in-Refused c = search refused_unsound
+pub returns-in-Err : goal.returns-in-Err
+returns-in-Err c = search refused_unsound

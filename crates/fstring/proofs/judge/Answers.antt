@@ -2,8 +2,8 @@
 use Rattle.fstring.proofs.Jobs.{job_bad, job_valid}
 use Rattle.fstring.proofs.judge.Goals as goal
 
-pub returns-in-Valid : goal.returns-in-Valid
-returns-in-Valid c = search job_valid
+pub returns-in-Some : goal.returns-in-Some
+returns-in-Some c = search job_valid
 
-pub returns-in-Invalid : goal.returns-in-Invalid
-returns-in-Invalid c = search job_bad
+pub returns-in-None : goal.returns-in-None
+returns-in-None c = search job_bad

@@ -12,8 +12,8 @@ room_behind-behind-requires c = sym c.is_whole.ensures ∙ c.if-not-is_whole.fal
 pub overflow_sub-result : goal.overflow_sub-result
 overflow_sub-result c = search left_less
 
-pub returns-in-Left : goal.returns-in-Left
-returns-in-Left c = search parts_fit
+pub returns-in-Some : goal.returns-in-Some
+returns-in-Some c = search parts_fit
 
-pub returns-in-Short : goal.returns-in-Short
-returns-in-Short c = search parts_short
+pub returns-in-None : goal.returns-in-None
+returns-in-None c = search parts_short

@@ -1,34 +1,57 @@
 -- `fstring::room_behind` meets its contract: the parts that are left decide. Assumes nothing.
-use Rattle.fstring.proofs.Counting.{spend_start, spend_fits, spend_stop, spend_on, spend_end}
+use borrow.Author.Rules.{rules}
+use mathlib.Core.Path.{ap, ◌∙◌}
+use Rattle.std.specs.Slice.Iter.{chunks_exact_rest, chunks_exact_size}
+use Rattle.fstring.proofs.Counting.{pair_of, spend_start, spend_fits, spend_stop, spend_on, spend_end}
 use Rattle.fstring.proofs.room_behind.Goals as goal
 
-pub loop-left-init : goal.loop-left-init
-loop-left-init c = search spend_start
+pub loop-part-init : goal.loop-part-init
+loop-part-init c =
+    let pairs = c.chunks_exact-part-items.ensures in
+    let over = c.into_iter-part-iterator.ensures.into_iter_gives in
+    record {
+      can_next = search rules;
+      finite = search rules;
+      size = ap chunks_exact_size over ∙ pairs.size;
+      spending = spend_start _ _ _ (ap chunks_exact_rest over ∙ pairs.rest) c.requires;
+    }
 
 pub slice_bounds-room_behind_part-end : goal.slice_bounds-room_behind_part-end
-slice_bounds-room_behind_part-end c = search spend_fits
+slice_bounds-room_behind_part-end c =
+    let loop = c.loop-part.invariant in
+    let (_, (is, long), _) = c.in-Some.ensures.steps in
+    let pair = pair_of c.in-Some.part.now _ loop.size is long in
+    spend_fits loop.spending pair c.text_length-n.ensures
 
-pub returns-in-Short : goal.returns-in-Short
-returns-in-Short c =
-    let loop = c.loop-left in
-    let test = c.loop-left-test in
-    let length = c.text_length-n in
-    spend_stop loop.invariant test.true length.ensures c.room_behind_part-behind.ensures
-    c.in-Short.is
+pub returns-in_err-spare : goal.returns-in_err-spare
+returns-in_err-spare c =
+    let loop = c.loop-part.invariant in
+    let (_, (is, long), _) = c.in-Some.ensures.steps in
+    let pair = pair_of c.in-Some.part.now _ loop.size is long in
+    rw c.from_residual.ensures
+    (spend_stop loop.spending pair c.text_length-n.ensures c.room_behind_part.ensures c.in_err-spare.was)
 
 pub slice_bounds-more-count : goal.slice_bounds-more-count
-slice_bounds-more-count c = search spend_fits
+slice_bounds-more-count c =
+    let loop = c.loop-part.invariant in
+    let (_, (is, long), _) = c.in-Some.ensures.steps in
+    let pair = pair_of c.in-Some.part.now _ loop.size is long in
+    spend_fits loop.spending pair c.text_length-n.ensures
 
-pub slice_bounds-more-start : goal.slice_bounds-more-start
-slice_bounds-more-start c = search spend_fits
-
-pub loop-left-preserved : goal.loop-left-preserved
-loop-left-preserved c =
-    let loop = c.loop-left in
-    let test = c.loop-left-test in
-    let length = c.text_length-n in
-    let part = c.room_behind_part-behind in
-    spend_on loop.invariant test.true length.ensures part.ensures c.in-Left.is
+pub loop-part-preserved : goal.loop-part-preserved
+loop-part-preserved c =
+    let loop = c.loop-part.invariant in
+    let (size, (is, long), _) = c.in-Some.ensures.steps in
+    let pair = pair_of c.in-Some.part.now _ loop.size is long in
+    record {
+      can_next = search rules;
+      finite = search rules;
+      size = size ∙ loop.size;
+      spending = spend_on loop.spending pair c.text_length-n.ensures c.room_behind_part.ensures c.in_ok-spare.was;
+    }
 
 pub returns : goal.returns
-returns c = search spend_end
+returns c =
+    let loop = c.loop-part.invariant in
+    let (_, (few, _), _) = c.in-None.ensures.steps in
+    spend_end loop.spending loop.size few

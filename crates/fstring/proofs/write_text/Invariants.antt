@@ -1,11 +1,6 @@
 -- What the loop keeps.
-use Prim.Native.Nat.{◌-◌}
-use lib.ListN.{length}
 use Rattle.fstring.proofs.Laying.{Laying}
 use Rattle.fstring.proofs.write_text.Given as goal
 
-abbrev pub invariant-loop-i : goal.invariant-loop-i
-invariant-loop-i l = Laying l.initial.out l.bytes l.at l.out l.p l.i
-
-abbrev pub decreases-loop-i : goal.decreases-loop-i
-decreases-loop-i l = length l.bytes - l.i
+abbrev pub invariant-loop-c : goal.invariant-loop-c
+invariant-loop-c l = Laying l.initial.out l.bytes l.at l.out l.p l.c-index

@@ -8,8 +8,8 @@ numbered-requires c = search accepted_small
 pub refusal-requires : goal.refusal-requires
 refusal-requires c = search refused_small
 
-pub returns-in-Accepted : goal.returns-in-Accepted
-returns-in-Accepted c = search accepted_answer
+pub returns-in-Ok : goal.returns-in-Ok
+returns-in-Ok c = search accepted_answer
 
-pub returns-in-Refused : goal.returns-in-Refused
-returns-in-Refused c = search refused_answer
+pub returns-in-Err : goal.returns-in-Err
+returns-in-Err c = search refused_answer

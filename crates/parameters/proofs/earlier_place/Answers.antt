@@ -5,5 +5,5 @@ use Rattle.parameters.proofs.earlier_place.Goals as goal
 pub overflow_cast-result : goal.overflow_cast-result
 overflow_cast-result c = search earlier_small
 
-pub returns-in-At : goal.returns-in-At
-returns-in-At c = search earlier_at
+pub returns-in-Some : goal.returns-in-Some
+returns-in-Some c = search earlier_at

@@ -2,5 +2,5 @@
 use Rattle.parameters.proofs.Job.{accepted_first}
 use Rattle.parameters.proofs.first_of.Goals as goal
 
-pub returns-in-Accepted : goal.returns-in-Accepted
-returns-in-Accepted c = search accepted_first
+pub returns-in-Ok : goal.returns-in-Ok
+returns-in-Ok c = search accepted_first

@@ -3,7 +3,7 @@ use native.Mathlib.Omega.{arith}
 use Rattle.parameters.proofs.place_of.Goals as goal
 
 pub number-requires : goal.number-requires
-number-requires c = let b = rw c.in-AtFlat.is at c.requires in omega (arith, b)
+number-requires c = let b = rw c.in-Some.is at c.requires in omega (arith, b)
 
-pub returns-in-AtFlat : goal.returns-in-AtFlat
-returns-in-AtFlat c = cc
+pub returns-in-Some : goal.returns-in-Some
+returns-in-Some c = cc

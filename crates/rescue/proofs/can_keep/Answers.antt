@@ -6,11 +6,11 @@ use Rattle.rescue.proofs.can_keep.Goals as goal
 pub returns-then-class-ne-STATEMENT : goal.returns-then-class-ne-STATEMENT
 returns-then-class-ne-STATEMENT c = search keep_other
 
-pub returns-in-At : goal.returns-in-At
-returns-in-At c = search keep_unsound
+pub returns-in-Some : goal.returns-in-Some
+returns-in-Some c = search keep_unsound
 
-pub returns-in-At-deep : goal.returns-in-At-deep
-returns-in-At-deep c = search keep_deep
+pub returns-in-Some-deep : goal.returns-in-Some-deep
+returns-in-Some-deep c = search keep_deep
 
-pub returns-in-Nothing : goal.returns-in-Nothing
-returns-in-Nothing c = search keep_flat
+pub returns-in-None : goal.returns-in-None
+returns-in-None c = search keep_flat

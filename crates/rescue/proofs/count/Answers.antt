@@ -1,13 +1,11 @@
--- `rescue::count` meets its contract: the counted nodes and those of the rest are all. Assumes nothing.
-use Rattle.soundness.proofs.Records.{count_start, count_on}
-use Rattle.rescue.proofs.Leaves.{count_roots, count_few}
+-- `rescue::count` meets its contract: the walk counts what it gives. Assumes nothing.
+use Rattle.std.proofs.Common.{◌∙◌}
+use native.Mathlib.Omega.{arith}
+use Rattle.forest.proofs.Drained.{nodes_counted}
 use Rattle.rescue.proofs.count.Goals as goal
 
-pub loop-left-init : goal.loop-left-init
-loop-left-init c = count_start _
-
-pub loop-left-preserved : goal.loop-left-preserved
-loop-left-preserved c = search count_on
-
 pub returns : goal.returns
-returns c = search (count_roots, count_few)
+returns c =
+    let ran = c.count.ensures.ran in
+    let few = c.count.ensures.bound in
+    (ran.2 ∙ nodes_counted 1 ran.0 _ ran.1, omega (arith, few))

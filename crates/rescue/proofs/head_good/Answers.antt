@@ -12,17 +12,17 @@ overflow_add-h c = omega (arith, used_small)
 pub overflow_add-h-2 : goal.overflow_add-h-2
 overflow_add-h-2 c = omega (arith, used_small)
 
-pub returns-in-Refused : goal.returns-in-Refused
-returns-in-Refused c = search head_zero
+pub returns-in-Err : goal.returns-in-Err
+returns-in-Err c = search head_zero
 
 pub returns-then-not-counts_fit : goal.returns-then-not-counts_fit
 returns-then-not-counts_fit c = search head_counts
 
-pub returns-in-Invalid : goal.returns-in-Invalid
-returns-in-Invalid c = search head_dialect
+pub returns-in-None : goal.returns-in-None
+returns-in-None c = search head_dialect
 
-pub returns-in-Unknown : goal.returns-in-Unknown
-returns-in-Unknown c = search head_edition
+pub returns-in-None-edition : goal.returns-in-None-edition
+returns-in-None-edition c = search head_edition
 
 pub slice_bounds-judge_run-count : goal.slice_bounds-judge_run-count
 slice_bounds-judge_run-count c = search head_long
@@ -30,8 +30,8 @@ slice_bounds-judge_run-count c = search head_long
 pub slice_bounds-judge_run-start : goal.slice_bounds-judge_run-start
 slice_bounds-judge_run-start c = search head_long
 
-pub returns-in-Passed : goal.returns-in-Passed
-returns-in-Passed c = search head_passed
+pub returns-in-Ok : goal.returns-in-Ok
+returns-in-Ok c = search head_passed
 
-pub returns-in-Refused-names : goal.returns-in-Refused-names
-returns-in-Refused-names c = search head_names
+pub returns-in-Err-names : goal.returns-in-Err-names
+returns-in-Err-names c = search head_names

@@ -2,8 +2,8 @@
 use Rattle.rescue.proofs.Leaves.{sound_yes, sound_no}
 use Rattle.rescue.proofs.sound.Goals as goal
 
-pub returns-in-Sound : goal.returns-in-Sound
-returns-in-Sound c = search sound_yes
+pub returns-in-Ok : goal.returns-in-Ok
+returns-in-Ok c = search sound_yes
 
-pub returns-in-Refused : goal.returns-in-Refused
-returns-in-Refused c = search sound_no
+pub returns-in-Err : goal.returns-in-Err
+returns-in-Err c = search sound_no

@@ -4,16 +4,16 @@ use Rattle.starlark_checks.specs.Words.{words}
 use Rattle.targets.specs.Jobs.{targeted}
 use Rattle.starlark_checks.proofs.starlark_assignment.Goals as goal
 
-pub returns-in-Leaves : goal.returns-in-Leaves
-returns-in-Leaves c =
+pub returns-in-Ok : goal.returns-in-Ok
+returns-in-Ok c =
     let assignment = c.assignment-answer in
-    let all = told words targeted _ _ _ _ _ _ assignment.ensures c.in-Leaves.is
+    let all = told words targeted _ _ _ _ _ _ assignment.ensures c.in-Ok.is
     (c.put_count.ensures.value, c.put_count.ensures.out_after) in
     record { value = all.0; out_after = all.1 }
 
-pub returns-in-Refused : goal.returns-in-Refused
-returns-in-Refused c =
+pub returns-in-Err : goal.returns-in-Err
+returns-in-Err c =
     let assignment = c.assignment-answer in
-    let all = told words targeted _ _ _ _ _ _ assignment.ensures c.in-Refused.is
+    let all = told words targeted _ _ _ _ _ _ assignment.ensures c.in-Err.is
     (c.put_refused.ensures.value, c.put_refused.ensures.out_after) in
     record { value = all.0; out_after = all.1 }

@@ -6,16 +6,16 @@ use Rattle.starlark_checks.specs.Words.{words}
 use Rattle.validate.specs.Job.{listed}
 use Rattle.starlark_checks.proofs.starlark_audit.Goals as goal
 
-pub returns-in-Total : goal.returns-in-Total
-returns-in-Total c =
+pub returns-in-Ok : goal.returns-in-Ok
+returns-in-Ok c =
     let audit = c.audit-answer in
-    let all = told_with words listed _ _ _ _ _ _ (audit.ensures.result_value, audit.ensures.errors_after) c.in-Total.is
+    let all = told_with words listed _ _ _ _ _ _ (audit.ensures.result_value, audit.ensures.errors_after) c.in-Ok.is
     (c.put_count.ensures.value, c.put_count.ensures.out_after) in
     record { value = all.0; out_after = all.1.0; errors_after = all.1.1 }
 
-pub returns-in-Refused : goal.returns-in-Refused
-returns-in-Refused c =
+pub returns-in-Err : goal.returns-in-Err
+returns-in-Err c =
     let audit = c.audit-answer in
     let all = told_with words listed _ _ _ _ _ _ (audit.ensures.result_value, audit.ensures.errors_after)
-    c.in-Refused.is (c.put_refused.ensures.value, c.put_refused.ensures.out_after) in
+    c.in-Err.is (c.put_refused.ensures.value, c.put_refused.ensures.out_after) in
     record { value = all.0; out_after = all.1.0; errors_after = all.1.1 }

@@ -6,16 +6,16 @@ use Rattle.starlark_checks.specs.Words.{words}
 use Rattle.bind.specs.Job.{bound}
 use Rattle.starlark_checks.proofs.starlark_bind.Goals as goal
 
-pub returns-in-Accepted : goal.returns-in-Accepted
-returns-in-Accepted c =
+pub returns-in-Ok : goal.returns-in-Ok
+returns-in-Ok c =
     let the-bind = c.bind-answer in
     let all = told_with words bound _ _ _ _ _ _ (the-bind.ensures.result_value, the-bind.ensures.list_after)
-    c.in-Accepted.is (c.put_two.ensures.value, c.put_two.ensures.out_after) in
+    c.in-Ok.is (c.put_two.ensures.value, c.put_two.ensures.out_after) in
     record { value = all.0; out_after = all.1.0; list_after = all.1.1 }
 
-pub returns-in-Refused : goal.returns-in-Refused
-returns-in-Refused c =
+pub returns-in-Err : goal.returns-in-Err
+returns-in-Err c =
     let the-bind = c.bind-answer in
     let all = told_with words bound _ _ _ _ _ _ (the-bind.ensures.result_value, the-bind.ensures.list_after)
-    c.in-Refused.is (c.put_refused.ensures.value, c.put_refused.ensures.out_after) in
+    c.in-Err.is (c.put_refused.ensures.value, c.put_refused.ensures.out_after) in
     record { value = all.0; out_after = all.1.0; list_after = all.1.1 }

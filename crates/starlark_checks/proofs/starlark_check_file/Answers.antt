@@ -6,16 +6,16 @@ use Rattle.starlark_checks.proofs.Told.{told_with, pass_refused}
 use Rattle.starlark_checks.specs.Words.{pass_words}
 use Rattle.starlark_checks.proofs.starlark_check_file.Goals as goal
 
-pub returns-in-Listed : goal.returns-in-Listed
-returns-in-Listed c =
+pub returns-in-Ok : goal.returns-in-Ok
+returns-in-Ok c =
     let check-file = c.check_file-answer in
     let all = told_with pass_words passed _ _ _ _ _ _ (check-file.ensures.result_value, check-file.ensures.errors_after)
-    c.in-Listed.is (c.put_two.ensures.value, c.put_two.ensures.out_after) in
+    c.in-Ok.is (c.put_two.ensures.value, c.put_two.ensures.out_after) in
     record { value = all.0; out_after = all.1.0; errors_after = all.1.1 }
 
-pub returns-in-Refused : goal.returns-in-Refused
-returns-in-Refused c =
+pub returns-in-Err : goal.returns-in-Err
+returns-in-Err c =
     let check-file = c.check_file-answer in
     let all = told_with pass_words passed _ _ _ _ _ _ (check-file.ensures.result_value, check-file.ensures.errors_after)
-    c.in-Refused.is (search pass_refused) in
+    c.in-Err.is (search pass_refused) in
     record { value = all.0; out_after = all.1.0; errors_after = all.1.1 }

@@ -7,16 +7,16 @@ use Rattle.starlark_checks.specs.Words.{rescue_words}
 use Rattle.rescue.specs.Job.{rescued}
 use Rattle.starlark_checks.proofs.starlark_rescue.Goals as goal
 
-pub returns-in-Accepted : goal.returns-in-Accepted
-returns-in-Accepted c =
+pub returns-in-Ok : goal.returns-in-Ok
+returns-in-Ok c =
     let rescue = c.rescue-answer in
     let all = told_with rescue_words rescued _ _ _ _ _ _ (rescue.ensures.result_value, rescue.ensures.file_after)
-    c.in-Accepted.is (refl, c.put_kept.ensures) in
+    c.in-Ok.is (refl, c.put_kept.ensures) in
     record { value = all.0; out_after = all.1.0; file_after = all.1.1 }
 
-pub returns-in-Refused : goal.returns-in-Refused
-returns-in-Refused c =
+pub returns-in-Err : goal.returns-in-Err
+returns-in-Err c =
     let rescue = c.rescue-answer in
     let all = told_with rescue_words rescued _ _ _ _ _ _ (rescue.ensures.result_value, rescue.ensures.file_after)
-    c.in-Refused.is (search rescue_refused) in
+    c.in-Err.is (search rescue_refused) in
     record { value = all.0; out_after = all.1.0; file_after = all.1.1 }

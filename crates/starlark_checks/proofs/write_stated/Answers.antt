@@ -6,16 +6,16 @@ use Rattle.starlark_checks.specs.Words.{words}
 use Rattle.writer.specs.Writing.{written}
 use Rattle.starlark_checks.proofs.write_stated.Goals as goal
 
-pub returns-in-Accepted : goal.returns-in-Accepted
-returns-in-Accepted c =
+pub returns-in-Ok : goal.returns-in-Ok
+returns-in-Ok c =
     let write = c.write-answer in
     let all = told_with words written _ _ _ _ _ _ (write.ensures.result_value, write.ensures.file_after)
-    c.in-Accepted.is (c.put_count.ensures.value, c.put_count.ensures.out_after) in
+    c.in-Ok.is (c.put_count.ensures.value, c.put_count.ensures.out_after) in
     record { value = all.0; out_after = all.1.0; file_after = all.1.1 }
 
-pub returns-in-Refused : goal.returns-in-Refused
-returns-in-Refused c =
+pub returns-in-Err : goal.returns-in-Err
+returns-in-Err c =
     let write = c.write-answer in
-    let all = told_with words written _ _ _ _ _ _ (write.ensures.result_value, write.ensures.file_after) c.in-Refused.is
+    let all = told_with words written _ _ _ _ _ _ (write.ensures.result_value, write.ensures.file_after) c.in-Err.is
     (c.put_refused.ensures.value, c.put_refused.ensures.out_after) in
     record { value = all.0; out_after = all.1.0; file_after = all.1.1 }

@@ -12,14 +12,14 @@ returns-then-names-gt-MOST_NAMES c = search check_names
 pub overflow_cast-result : goal.overflow_cast-result
 overflow_cast-result c = record { fits = search unsound_small }
 
-pub returns-in-At : goal.returns-in-At
-returns-in-At c = search check_unsound
+pub returns-in-Some : goal.returns-in-Some
+returns-in-Some c = search check_unsound
 
-pub overflow_cast-result-in-At-deep : goal.overflow_cast-result-in-At-deep
-overflow_cast-result-in-At-deep c = record { fits = search deep_small }
+pub overflow_cast-result-in-Some-first_deep : goal.overflow_cast-result-in-Some-first_deep
+overflow_cast-result-in-Some-first_deep c = record { fits = search deep_small }
 
-pub returns-in-At-deep : goal.returns-in-At-deep
-returns-in-At-deep c = search check_deep
+pub returns-in-Some-first_deep : goal.returns-in-Some-first_deep
+returns-in-Some-first_deep c = search check_deep
 
 pub returns : goal.returns
 returns c = search check_sound

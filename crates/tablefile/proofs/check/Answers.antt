@@ -2,8 +2,8 @@
 use Rattle.tablefile.proofs.Fronts.{sound_refused, sound_passed}
 use Rattle.tablefile.proofs.check.Goals as goal
 
-pub returns-in-By : goal.returns-in-By
-returns-in-By c = search sound_passed
+pub returns-in-Ok : goal.returns-in-Ok
+returns-in-Ok c = search sound_passed
 
-pub returns-in-Refused : goal.returns-in-Refused
-returns-in-Refused c = search sound_refused
+pub returns-in-Err : goal.returns-in-Err
+returns-in-Err c = search sound_refused

@@ -3,8 +3,8 @@ use Rattle.tablefile.proofs.Loads.{within_arrays, meets_refused, meets_accepted,
 use Rattle.tablefile.proofs.Loads.{read_left, read_unsound, read_sound}
 use Rattle.tablefile.proofs.read.Goals as goal
 
-pub returns-in-Refused : goal.returns-in-Refused
-returns-in-Refused c =
+pub returns-in-Err : goal.returns-in-Err
+returns-in-Err c =
     let all = meets_refused _ _ _ _ c.refused.ensures (search read_front) in
     record { verdict_value = all.0; value = all.1 }
 
@@ -22,9 +22,9 @@ returns-then-l-file c =
 pub check-sound-requires : goal.check-sound-requires
 check-sound-requires c = search within_arrays
 
-pub returns-in-Refused-sound : goal.returns-in-Refused-sound
-returns-in-Refused-sound c =
-    let all = meets_refused _ _ _ _ c.refused-in-Refused-sound.ensures (search read_unsound) in
+pub returns-in-Err-sound : goal.returns-in-Err-sound
+returns-in-Err-sound c =
+    let all = meets_refused _ _ _ _ c.refused-in-Err-sound.ensures (search read_unsound) in
     record { verdict_value = all.0; value = all.1 }
 
 pub returns : goal.returns

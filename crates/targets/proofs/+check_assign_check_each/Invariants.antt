@@ -10,8 +10,6 @@ decreases-check_assign l = 2 * length l.t.now
 abbrev pub decreases-check_each : goal.decreases-check_each
 decreases-check_each l = 2 * length l.t.now + 1
 
-abbrev pub invariant-check_each-loop-left : goal.invariant-check_each-loop-left
-invariant-check_each-loop-left l = Counting l.t l.node l.count l.left l.at l.leaves
-
-abbrev pub decreases-check_each-loop-left : goal.decreases-check_each-loop-left
-decreases-check_each-loop-left l = length l.left
+abbrev pub invariant-check_each-loop-at : goal.invariant-check_each-loop-at
+invariant-check_each-loop-at l =
+    Counting l.t l.node l.count l.at-iterator.left.now l.at-iterator.at l.leaves

@@ -2,5 +2,5 @@
 use Rattle.writer.proofs.Building.{byte_number}
 use Rattle.writer.proofs.is_byte.Goals as goal
 
-pub returns-in-Number : goal.returns-in-Number
-returns-in-Number c = search byte_number
+pub returns-in-Some : goal.returns-in-Some
+returns-in-Some c = search byte_number

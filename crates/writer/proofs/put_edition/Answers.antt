@@ -5,8 +5,8 @@ use Rattle.writer.proofs.put_edition.Goals as goal
 pub overflow_cast-out : goal.overflow_cast-out
 overflow_cast-out c = record { fits = search byte_small }
 
-pub returns-in-Number : goal.returns-in-Number
-returns-in-Number c = record { out_after = search edition_put; value = search edition_behind }
+pub returns-in-Some : goal.returns-in-Some
+returns-in-Some c = record { out_after = search edition_put; value = search edition_behind }
 
-pub returns-in-Nothing : goal.returns-in-Nothing
-returns-in-Nothing c = record { out_after = search edition_kept; value = search edition_here }
+pub returns-in-None : goal.returns-in-None
+returns-in-None c = record { out_after = search edition_kept; value = search edition_here }

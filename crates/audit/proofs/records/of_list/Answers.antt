@@ -6,8 +6,8 @@ use Rattle.audit.proofs.records.of_list.Goals as goal
 pub of_fault-requires : goal.of_fault-requires
 of_fault-requires c = search fault_small
 
-pub returns-in-Accepted : goal.returns-in-Accepted
-returns-in-Accepted c = search list_none
+pub returns-in-Ok : goal.returns-in-Ok
+returns-in-Ok c = search list_none
 
-pub returns-in-Refused : goal.returns-in-Refused
-returns-in-Refused c = search list_one
+pub returns-in-Err : goal.returns-in-Err
+returns-in-Err c = search list_one

@@ -2,5 +2,5 @@
 use Rattle.audit.proofs.Refused.{type_refused}
 use Rattle.audit.proofs.records.of_type.Goals as goal
 
-pub returns-in-Refused : goal.returns-in-Refused
-returns-in-Refused c = search type_refused
+pub returns-in-Err : goal.returns-in-Err
+returns-in-Err c = search type_refused

@@ -2,8 +2,8 @@
 use Rattle.audit.proofs.Refused.{push_none, push_one}
 use Rattle.audit.proofs.records.push_refusal.Goals as goal
 
-pub returns-in-Sound : goal.returns-in-Sound
-returns-in-Sound c = search push_none
+pub returns-in-Ok : goal.returns-in-Ok
+returns-in-Ok c = search push_none
 
-pub returns-in-Refused : goal.returns-in-Refused
-returns-in-Refused c = search push_one
+pub returns-in-Err : goal.returns-in-Err
+returns-in-Err c = search push_one

@@ -1,15 +1,16 @@
 -- `bind::checks::both` meets its contract: the list before the call. Assumes nothing.
+use Rattle.std.proofs.Common.{rules}
 use Rattle.bind.specs.Reading.{both}
 use Rattle.bind.proofs.checks.both.Goals as goal
 
-pub returns-in-Refused : goal.returns-in-Refused
+pub returns-in_err-counted : goal.returns-in_err-counted
 unfolding both
-returns-in-Refused c = cc
+returns-in_err-counted c = search rules
 
-pub returns-in-Refused-called : goal.returns-in-Refused-called
+pub returns-in_err-called : goal.returns-in_err-called
 unfolding both
-returns-in-Refused-called c = cc
+returns-in_err-called c = search rules
 
-pub returns-in-Accepted-called : goal.returns-in-Accepted-called
+pub returns : goal.returns
 unfolding both
-returns-in-Accepted-called c = cc
+returns c = search rules

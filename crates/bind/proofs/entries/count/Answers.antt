@@ -1,12 +1,11 @@
--- `bind::entries::count` meets its contract: at the end all are counted. Assumes nothing.
-use Rattle.bind.proofs.Loops.{number_start, number_on, number_end, number_short}
+-- `bind::entries::count` meets its contract: the walk counts what it gives. Assumes nothing.
+use Rattle.std.proofs.Common.{◌∙◌}
+use native.Mathlib.Omega.{arith}
+use Rattle.bind.proofs.Loops.{args_counted}
 use Rattle.bind.proofs.entries.count.Goals as goal
 
-pub loop-left-init : goal.loop-left-init
-loop-left-init c = number_start _
+pub returns-clause-by_index : goal.returns-clause-by_index
+returns-clause-by_index c = λ ns i. let ran = c.count.ensures.ran in ran.2 ∙ args_counted ns i ran.0 _ ran.1
 
-pub loop-left-preserved : goal.loop-left-preserved
-loop-left-preserved c = search number_on
-
-pub returns : goal.returns
-returns c = record { by_index = search number_end; result_in_bounds = search number_short }
+pub returns-clause-result_in_bounds : goal.returns-clause-result_in_bounds
+returns-clause-result_in_bounds c = let few = c.count.ensures.bound in omega (arith, few)

@@ -1,17 +1,11 @@
--- `bind::entries::written` meets its contract: at the end all are counted. Assumes nothing.
+-- `bind::entries::written` meets its contract: the walk counts what it gives. Assumes nothing.
+use Rattle.std.proofs.Common.{◌∙◌}
 use native.Mathlib.Omega.{arith}
-use Rattle.deflist.proofs.Reading.{count_start, count_on, rest_less}
-use Rattle.bind.proofs.Loops.{many_end}
+use Rattle.deflist.proofs.Reading.{params_counted}
 use Rattle.bind.proofs.entries.written.Goals as goal
 
-pub loop-left-init : goal.loop-left-init
-loop-left-init c = count_start _
+pub returns-clause-by_index : goal.returns-clause-by_index
+returns-clause-by_index c = λ ns i. let ran = c.count.ensures.ran in ran.2 ∙ params_counted ns i ran.0 _ ran.1
 
-pub loop-left-smaller : goal.loop-left-smaller
-loop-left-smaller c = search rest_less
-
-pub loop-left-preserved : goal.loop-left-preserved
-loop-left-preserved c = search count_on
-
-pub returns : goal.returns
-returns c = record { by_index = search many_end; result_in_bounds = omega arith }
+pub returns-clause-result_in_bounds : goal.returns-clause-result_in_bounds
+returns-clause-result_in_bounds c = let few = c.count.ensures.bound in omega (arith, few)

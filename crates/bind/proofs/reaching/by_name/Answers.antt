@@ -2,5 +2,5 @@
 
 use Rattle.bind.proofs.reaching.by_name.Goals as goal
 
-pub returns-in-At : goal.returns-in-At
-returns-in-At c = cc
+pub returns-in-Some : goal.returns-in-Some
+returns-in-Some c = cc

@@ -1,23 +1,24 @@
 -- `bind::walk::first_empty` meets its contract: the parameters that are left decide. Assumes nothing.
 use native.Mathlib.Omega.{arith}
-use Rattle.deflist.proofs.Reading.{rest_less}
+use Rattle.std.proofs.Common.{rules, sym}
 use Rattle.bind.proofs.Loops.{empty_start, empty_room, empty_here, empty_on, empty_end}
 use Rattle.bind.proofs.walk.first_empty.Goals as goal
 
-pub loop-left-init : goal.loop-left-init
-loop-left-init c = search empty_start
+pub loop-at-init : goal.loop-at-init
+loop-at-init c = search (rules, empty_start)
 
 pub returns-then-is_empty : goal.returns-then-is_empty
-returns-then-is_empty c = search empty_here
+returns-then-is_empty c = let given = c.in-Some.ensures.steps in
+    let here = rw (sym given.index, sym given.stretch) at c.loop-at.invariant in
+    search (empty_here, here, given)
 
 pub overflow_add-flat : goal.overflow_add-flat
 overflow_add-flat c = omega (arith, empty_room)
 
-pub loop-left-smaller : goal.loop-left-smaller
-loop-left-smaller c = search rest_less
-
-pub loop-left-preserved : goal.loop-left-preserved
-loop-left-preserved c = search empty_on
+pub loop-at-preserved : goal.loop-at-preserved
+loop-at-preserved c = let given = c.in-Some.ensures.steps in
+    let here = rw (sym given.index, sym given.stretch) at c.loop-at.invariant in
+    search (empty_on, here, given)
 
 pub returns : goal.returns
-returns c = search empty_end
+returns c = let ended = c.in-None.ensures.steps in search (empty_end, ended)

@@ -1,10 +1,6 @@
 -- What the loop keeps.
-use lib.ListN.{length}
 use Rattle.bind.proofs.Loops.{Starring}
 use Rattle.bind.proofs.walk.first_star.Given as goal
 
-abbrev pub invariant-loop-left : goal.invariant-loop-left
-invariant-loop-left l = Starring l.args l.first l.left l.at
-
-abbrev pub decreases-loop-left : goal.decreases-loop-left
-decreases-loop-left l = length l.left
+abbrev pub invariant-loop-at : goal.invariant-loop-at
+invariant-loop-at l = Starring l.args l.first l.at-iterator.left.now l.at-iterator.at

@@ -2,8 +2,8 @@
 use Rattle.books.proofs.Laws.{blocks_passed, blocks_refused}
 use Rattle.books.proofs.places.sound_blocks.Goals as goal
 
-pub returns-in-Passed : goal.returns-in-Passed
-returns-in-Passed c = search blocks_passed
+pub returns-in-Ok : goal.returns-in-Ok
+returns-in-Ok c = search blocks_passed
 
-pub returns-in-Refused : goal.returns-in-Refused
-returns-in-Refused c = search blocks_refused
+pub returns-in-Err : goal.returns-in-Err
+returns-in-Err c = search blocks_refused

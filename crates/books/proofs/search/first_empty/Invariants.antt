@@ -1,5 +1,4 @@
 -- What the loop keeps.
-use Prim.Native.Nat.{◌-◌}
 use Rattle.books.specs.Book.{places_of}
 use Rattle.books.specs.Change.{empty_at}
 use Rattle.books.proofs.Changing.{Finding}
@@ -7,6 +6,3 @@ use Rattle.books.proofs.search.first_empty.Given as goal
 
 abbrev pub invariant-loop-p : goal.invariant-loop-p
 invariant-loop-p l = Finding (empty_at l.book) (places_of l.book) l.first l.p
-
-abbrev pub decreases-loop-p : goal.decreases-loop-p
-decreases-loop-p l = l.n - l.p

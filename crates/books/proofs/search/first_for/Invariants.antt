@@ -1,5 +1,4 @@
 -- What the loop keeps.
-use Prim.Native.Nat.{◌-◌}
 use Rattle.books.specs.Book.{places_of}
 use Rattle.books.specs.Change.{for_at}
 use Rattle.books.proofs.Changing.{Searching}
@@ -7,6 +6,3 @@ use Rattle.books.proofs.search.first_for.Given as goal
 
 abbrev pub invariant-loop-p : goal.invariant-loop-p
 invariant-loop-p l = Searching (for_at l.zone l.setting l.book) (places_of l.book) l.p
-
-abbrev pub decreases-loop-p : goal.decreases-loop-p
-decreases-loop-p l = l.n - l.p

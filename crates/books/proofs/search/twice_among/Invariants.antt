@@ -1,10 +1,6 @@
 -- What the loop keeps.
-use Prim.Native.Nat.{◌-◌}
 use Rattle.books.proofs.Marking.{Once}
 use Rattle.books.proofs.search.twice_among.Given as goal
 
 abbrev pub invariant-loop-p : goal.invariant-loop-p
 invariant-loop-p l = Once l.book l.initial.noted l.noted l.p
-
-abbrev pub decreases-loop-p : goal.decreases-loop-p
-decreases-loop-p l = l.n - l.p

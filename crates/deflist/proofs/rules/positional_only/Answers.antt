@@ -2,8 +2,8 @@
 use mathlib.Core.Path.{refl}
 use Rattle.deflist.proofs.rules.positional_only.Goals as goal
 
-pub returns-in-AtWritten : goal.returns-in-AtWritten
-returns-in-AtWritten c = cc
+pub returns-in-Some : goal.returns-in-Some
+returns-in-Some c = cc
 
-pub returns-in-NoWritten : goal.returns-in-NoWritten
-returns-in-NoWritten c = rw c.in-NoWritten.is refl
+pub returns-in-None : goal.returns-in-None
+returns-in-None c = rw c.in-None.is refl

@@ -2,8 +2,8 @@
 use Rattle.deflist.proofs.Walking.{check_found, check_rule}
 use Rattle.deflist.proofs.walk.check.Goals as goal
 
-pub returns-in-At : goal.returns-in-At
-returns-in-At c = search check_found
+pub returns-in-Some : goal.returns-in-Some
+returns-in-Some c = search check_found
 
-pub returns-in-Nothing : goal.returns-in-Nothing
-returns-in-Nothing c = search check_rule
+pub returns-in-None : goal.returns-in-None
+returns-in-None c = search check_rule

@@ -6,8 +6,8 @@ use Rattle.deflist.proofs.walk.earlier.Goals as goal
 pub overflow_add-result : goal.overflow_add-result
 overflow_add-result c = search earlier_room
 
-pub returns-in-At : goal.returns-in-At
-returns-in-At c = search earlier_at
+pub returns-in-Some : goal.returns-in-Some
+returns-in-Some c = search earlier_at
 
-pub returns-in-Nothing : goal.returns-in-Nothing
-returns-in-Nothing c = search earlier_none
+pub returns-in-None : goal.returns-in-None
+returns-in-None c = search earlier_none

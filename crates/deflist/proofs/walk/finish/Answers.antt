@@ -3,10 +3,10 @@ use mathlib.Core.Path.{refl}
 use Rattle.deflist.specs.Unpack.{finish}
 use Rattle.deflist.proofs.walk.finish.Goals as goal
 
-pub returns-in-AtWritten : goal.returns-in-AtWritten
+pub returns-in-Some : goal.returns-in-Some
 unfolding finish
-returns-in-AtWritten c = rw c.in-AtWritten.is c.after_star.ensures
+returns-in-Some c = rw c.in-Some.is c.after_star.ensures
 
-pub returns-in-NoWritten : goal.returns-in-NoWritten
+pub returns-in-None : goal.returns-in-None
 unfolding finish
-returns-in-NoWritten c = rw c.in-NoWritten.is (record { says = λ names h. refl; inside = tt })
+returns-in-None c = rw c.in-None.is (record { says = λ names h. refl; inside = tt })

@@ -1,10 +1,7 @@
 -- What the loop keeps.
-use lib.ListN.{length}
 use Rattle.deflist.proofs.Walking.{Judging}
 use Rattle.deflist.proofs.walk.run.Given as goal
 
-abbrev pub invariant-loop-left : goal.invariant-loop-left
-invariant-loop-left l = Judging l.names l.kids l.first l.initial.marks l.initial.u l.marks l.u l.left l.at l.n.0
-
-abbrev pub decreases-loop-left : goal.decreases-loop-left
-decreases-loop-left l = length l.left
+abbrev pub invariant-loop-i : goal.invariant-loop-i
+invariant-loop-i l = (goal.iterator-loop-i).can_next l.i-iterator × Judging l.names l.kids l.first l.initial.marks
+    l.initial.u l.marks l.u l.i-iterator.iter.nodes.left.now l.i-iterator.iter.nodes.at l.i-iterator.count

@@ -2,8 +2,8 @@
 use Rattle.figures.proofs.Lists.{call_accepted, call_refused}
 use Rattle.figures.proofs.nodes.add_call.Goals as goal
 
-pub returns-in-Accepted : goal.returns-in-Accepted
-returns-in-Accepted c = search call_accepted
+pub returns-in-Ok : goal.returns-in-Ok
+returns-in-Ok c = search call_accepted
 
-pub returns-in-Refused : goal.returns-in-Refused
-returns-in-Refused c = search call_refused
+pub returns-in-Err : goal.returns-in-Err
+returns-in-Err c = search call_refused

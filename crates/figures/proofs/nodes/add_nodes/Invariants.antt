@@ -1,10 +1,6 @@
 -- What the loop keeps.
-use Prim.Native.Nat.{◌-◌}
 use Rattle.figures.proofs.ByKind.{Walk}
 use Rattle.figures.proofs.nodes.add_nodes.Given as goal
 
 abbrev pub invariant-loop-i : goal.invariant-loop-i
 invariant-loop-i l = Walk l.table l.names l.initial.figures l.count l.figures l.i
-
-abbrev pub decreases-loop-i : goal.decreases-loop-i
-decreases-loop-i l = l.count - l.i

@@ -5,8 +5,8 @@ use Rattle.figures.proofs.nodes.modes_of.Goals as goal
 pub lengths-requires : goal.lengths-requires
 lengths-requires c = search ranged_accepted
 
-pub returns-in-Accepted : goal.returns-in-Accepted
-returns-in-Accepted c = search counts_accepted
+pub returns-in-Ok : goal.returns-in-Ok
+returns-in-Ok c = search counts_accepted
 
-pub returns-in-Refused : goal.returns-in-Refused
-returns-in-Refused c = search counts_refused
+pub returns-in-Err : goal.returns-in-Err
+returns-in-Err c = search counts_refused

@@ -2,8 +2,8 @@
 use Rattle.figures.proofs.Occurring.{numbers_there, errors_added}
 use Rattle.figures.proofs.told.add_errors.Goals as goal
 
-pub add_numbers-requires : goal.add_numbers-requires
-add_numbers-requires c = search numbers_there
+pub slice_bounds-add_numbers-end : goal.slice_bounds-add_numbers-end
+slice_bounds-add_numbers-end c = search numbers_there
 
 pub returns : goal.returns
 returns c = search errors_added

@@ -1,10 +1,6 @@
 -- What the loop keeps.
-use Prim.Native.Nat.{◌-◌}
 use Rattle.forest.proofs.Named.{Alike}
 use Rattle.forest.proofs.names.same_rest.Given as goal
 
 abbrev pub invariant-loop-i : goal.invariant-loop-i
 invariant-loop-i l = Alike l.a l.b l.n l.i
-
-abbrev pub decreases-loop-i : goal.decreases-loop-i
-decreases-loop-i l = l.n - l.i

@@ -2,8 +2,8 @@
 use mathlib.Core.Path.{refl}
 use Rattle.parameters.proofs.indices.place_range.Goals as goal
 
-pub returns-in-At : goal.returns-in-At
-returns-in-At c = cc
+pub returns-in-Some : goal.returns-in-Some
+returns-in-Some c = cc
 
-pub returns-in-Nothing : goal.returns-in-Nothing
-returns-in-Nothing c = rw c.in-Nothing.is refl
+pub returns-in-None : goal.returns-in-None
+returns-in-None c = rw c.in-None.is refl

@@ -12,18 +12,12 @@ decreases-write l = span_of l.t.now
 abbrev pub decreases-write_argument : goal.decreases-write_argument
 decreases-write_argument l = span_of l.t.now
 
-abbrev pub invariant-write-loop-left : goal.invariant-write-loop-left
-invariant-write-loop-left l =
+abbrev pub invariant-write-loop-here : goal.invariant-write-loop-here
+invariant-write-loop-here l =
     Writing l.reads.others l.t l.at (kids_written l.reads l.at l.t l.e l.initial.shapes) (length l.initial.shapes)
-    l.left l.place l.how l.shapes
+    l.here-iterator.left.now l.here-iterator.at l.how l.shapes
 
-abbrev pub decreases-write-loop-left : goal.decreases-write-loop-left
-decreases-write-loop-left l = length l.left
-
-abbrev pub invariant-write_argument-loop-left : goal.invariant-write_argument-loop-left
-invariant-write_argument-loop-left l =
+abbrev pub invariant-write_argument-loop-here : goal.invariant-write_argument-loop-here
+invariant-write_argument-loop-here l =
     Writing AsArgument l.t l.at (kids_written arguments_only l.at l.t l.e l.initial.shapes) (length l.initial.shapes)
-    l.left l.place AsArgument l.shapes
-
-abbrev pub decreases-write_argument-loop-left : goal.decreases-write_argument-loop-left
-decreases-write_argument-loop-left l = length l.left
+    l.here-iterator.left.now l.here-iterator.at AsArgument l.shapes

@@ -1,30 +1,39 @@
 -- `table::depth::deep_from` meets its contract: of nodes side by side one is too deep, or one below it, or one after
 -- it.
 -- Assumes nothing.
-use Rattle.table.proofs.Deep.{deep_start, deep_none, deep_here, deep_below, deep_on, deep_few}
+use Rattle.std.proofs.Common.{rules, sym}
+use Rattle.table.proofs.Deep.{deep_start, deep_none, deep_here, deep_below, deep_on, deep_few, deep_end}
 use Rattle.table.proofs.depth.+deep_from.Goals as goal
-use Rattle.table.proofs.depth.+deep_from.Goals.{then-here-e-gt-MOST_DEPTH+in_default, else-here-e-gt-MOST_DEPTH}
 
-pub loop-left-init : goal.loop-left-init
-loop-left-init t c = search deep_start
+pub loop-i-init : goal.loop-i-init
+loop-i-init t c = search (rules, deep_start)
+
+pub returns-then-depth-left-le-MOST_DEPTH : goal.returns-then-depth-left-le-MOST_DEPTH
+returns-then-depth-left-le-MOST_DEPTH t c = let given = c.in-Some.ensures.steps in
+    let here = rw (sym given.index, sym given.stretch) at c.loop-i.invariant in
+    search (deep_none, here)
 
 pub returns-then-here-gt-MOST_DEPTH : goal.returns-then-here-gt-MOST_DEPTH
-returns-then-here-gt-MOST_DEPTH t c = search deep_here
+returns-then-here-gt-MOST_DEPTH t c = let given = c.in-Some.ensures.steps in
+    let here = rw (sym given.index, sym given.stretch) at c.loop-i.invariant in
+    search (deep_here, here)
 
-pub returns-in-At : goal.returns-in-At
-returns-in-At t c = search deep_below
+pub returns-in-Some-below : goal.returns-in-Some-below
+returns-in-Some-below t c = let given = c.in-Some.ensures.steps in
+    let here = rw (sym given.index, sym given.stretch) at c.loop-i.invariant in
+    search (deep_below, here)
 
-pub loop-left-preserved : goal.loop-left-preserved
-loop-left-preserved t c =
-    let few = c.if-here-gt-MOST_DEPTH.false in
-    let weight = c.weight_of.ensures.0 in
-    let many = c.loop-left-test.true in
-    let inv = c.loop-left.invariant in
-    elim c.if-here-e-gt-MOST_DEPTH.branch [
-      | then-here-e-gt-MOST_DEPTH+in_default w ↦
-          deep_on inv many weight few c.span-e.ensures _ w.deep_from-below.ensures w.in_default.is
-      | else-here-e-gt-MOST_DEPTH w ↦ deep_few inv many weight few c.span-e.ensures w.if-here-e-gt-MOST_DEPTH.false
-    ]
+pub loop-i-preserved-in_default : goal.loop-i-preserved-in_default
+loop-i-preserved-in_default t c = let given = c.in-Some.ensures.steps in
+    let here = rw (sym given.index, sym given.stretch) at c.loop-i.invariant in
+    deep_on here c.if-depth-left-le-MOST_DEPTH.false c.weight_of.ensures.0 c.if-here-gt-MOST_DEPTH.false
+    c.span-e.ensures _ c.deep_from-below.ensures c.in_default.is given.next given.rest
+
+pub loop-i-preserved : goal.loop-i-preserved
+loop-i-preserved t c = let given = c.in-Some.ensures.steps in
+    let here = rw (sym given.index, sym given.stretch) at c.loop-i.invariant in
+    deep_few here c.if-depth-left-le-MOST_DEPTH.false c.weight_of.ensures.0 c.if-here-gt-MOST_DEPTH.false
+    c.span-e.ensures c.if-here-e-gt-MOST_DEPTH.false given.next given.rest
 
 pub returns : goal.returns
-returns t c = search deep_none
+returns t c = let ended = c.in-None.ensures.steps in search (deep_end, ended)

@@ -6,8 +6,5 @@ use Rattle.table.proofs.depth.+deep_from.Given as goal
 abbrev pub decreases-deep_from : goal.decreases-deep_from
 decreases-deep_from l = length l.t.now
 
-abbrev pub invariant-loop-left : goal.invariant-loop-left
-invariant-loop-left l = Searching l.t l.at l.depth l.left l.i
-
-abbrev pub decreases-loop-left : goal.decreases-loop-left
-decreases-loop-left l = length l.left
+abbrev pub invariant-loop-i : goal.invariant-loop-i
+invariant-loop-i l = Searching l.t l.at l.depth l.i-iterator.left.now l.i-iterator.at

@@ -1,10 +1,6 @@
 -- What the loop keeps.
-use Prim.Native.Nat.{◌-◌}
 use Rattle.table.proofs.Naming.{Searching}
 use Rattle.table.proofs.named.first_named.Given as goal
 
 abbrev pub invariant-loop-i : goal.invariant-loop-i
 invariant-loop-i l = Searching l.entries l.names l.name l.t l.n l.left l.at l.i
-
-abbrev pub decreases-loop-i : goal.decreases-loop-i
-decreases-loop-i l = l.n - l.i

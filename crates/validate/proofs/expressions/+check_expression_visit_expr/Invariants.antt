@@ -10,9 +10,7 @@ decreases-check_expression l = 2 * length l.t.now
 abbrev pub decreases-visit_expr : goal.decreases-visit_expr
 decreases-visit_expr l = 2 * length l.t.now + 1
 
-abbrev pub invariant-visit_expr-loop-left : goal.invariant-visit_expr-loop-left
-invariant-visit_expr-loop-left l =
-    Expressions l.listing l.d l.names l.t l.at l.initial.errors l.left l.place l.total l.errors
-
-abbrev pub decreases-visit_expr-loop-left : goal.decreases-visit_expr-loop-left
-decreases-visit_expr-loop-left l = length l.left
+abbrev pub invariant-visit_expr-loop-place : goal.invariant-visit_expr-loop-place
+invariant-visit_expr-loop-place l =
+    Expressions l.listing l.d l.names l.t l.at l.initial.errors l.place-iterator.left.now l.place-iterator.at l.total
+    l.errors

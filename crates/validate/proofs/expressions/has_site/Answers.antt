@@ -1,15 +1,24 @@
 -- `validate::expressions::has_site` meets its contract: what is left decides, record by record. Assumes nothing.
-use Rattle.validate.proofs.Sites.{scan_start, scan_found, scan_on, scan_end}
+use Rattle.std.proofs.Common.{◌∙◌}
+use Rattle.validate.proofs.Sites.{scan_found, scan_on, scan_end}
 use Rattle.validate.proofs.expressions.has_site.Goals as goal
 
-pub loop-left-init : goal.loop-left-init
-loop-left-init c = scan_start
-
 pub returns-then-is_site : goal.returns-then-is_site
-returns-then-is_site c = search scan_found
+returns-then-is_site c =
+    let given = c.in-Some.ensures.steps in
+    let loop = c.loop-record.invariant in
+    scan_found loop.1 _ _ given.1.0 (given.1.1 ∙ loop.0) c.kind.ensures c.is_site.ensures c.if-is_site.true
 
-pub loop-left-preserved : goal.loop-left-preserved
-loop-left-preserved c = search scan_on
+pub loop-record-preserved : goal.loop-record-preserved
+loop-record-preserved c =
+    let given = c.in-Some.ensures.steps in
+    let loop = c.loop-record.invariant in (
+      given.0 ∙ loop.0,
+      scan_on loop.1 _ _ given.1.0 (given.1.1 ∙ loop.0) c.kind.ensures c.is_site.ensures c.if-is_site.false,
+    )
 
 pub returns : goal.returns
-returns c = search scan_end
+returns c =
+    let ended = c.in-None.ensures.steps in
+    let loop = c.loop-record.invariant in
+    scan_end loop.1 (rw loop.0 at ended.1.0)

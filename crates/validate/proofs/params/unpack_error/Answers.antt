@@ -5,8 +5,8 @@ use Rattle.validate.proofs.params.unpack_error.Goals as goal
 pub error_of-requires : goal.error_of-requires
 error_of-requires c = search fault_small
 
-pub returns-in-Accepted : goal.returns-in-Accepted
-returns-in-Accepted c = search error_none
+pub returns-in-Ok : goal.returns-in-Ok
+returns-in-Ok c = search error_none
 
-pub returns-in-Refused : goal.returns-in-Refused
-returns-in-Refused c = search error_one
+pub returns-in-Err : goal.returns-in-Err
+returns-in-Err c = search error_one

@@ -6,6 +6,9 @@ use Rattle.validate.proofs.Walks.{f_none, f_def, f_load}
 use Rattle.validate.proofs.Walks.{f_told, f_below}
 use Rattle.validate.proofs.Plain.{f_plain, plain_quiet}
 use borrow.Author.Rules.{rules}
+use mathlib.Core.Path.{ap}
+use Prim.Native.Nat.{ℕ, ◌+◌, ◌/◌}
+use Rattle.forest.proofs.Stretch.{rest_part}
 use Rattle.validate.proofs.statements.+check_statement_visit_stmt.Goals as goal
 
 pub check_statement-returns-then-not-is_statement : goal.check_statement-returns-then-not-is_statement
@@ -39,7 +42,10 @@ pub visit_stmt-overflow_add-total : goal.visit_stmt-overflow_add-total
 visit_stmt-overflow_add-total t c = omega (arith, f_short)
 
 pub visit_stmt-loop-left-preserved : goal.visit_stmt-loop-left-preserved
-visit_stmt-loop-left-preserved t c = search each_on
+visit_stmt-loop-left-preserved t c =
+    let span-is = c.span-e.ensures in
+    let place-is = ap (λ (n : ℕ). c.loop-left.place + n / 24) span-is in
+    search (each_on, rest_part _ _ span-is, place-is)
 
 pub visit_stmt-shape_of-errors : goal.visit_stmt-shape_of-errors
 visit_stmt-shape_of-errors t c = search each_long

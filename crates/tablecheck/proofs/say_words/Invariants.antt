@@ -1,6 +1,0 @@
--- The number of words left falls.
-use Rattle.std.proofs.Common.{◌-◌}
-use Rattle.tablecheck.proofs.say_words.Given as goal
-
-abbrev pub decreases-loop-i : goal.decreases-loop-i
-decreases-loop-i g l = l.n - l.i
