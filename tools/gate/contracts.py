@@ -67,8 +67,8 @@ class Function:
         begin = re.compile(r"\s*").match(code, at).end()
         if code[begin:begin + 1] != "{":
             raise Unread(fault(f"{self.name}: the text between its contract and its body"))
-        # what a trait's method promises stands at the trait
-        self.promised = any(word == "ensures" for word, _ in self.clauses) or holder in source.of_traits
+        # what a trait's method promises stands in a law of its impl
+        self.promised = any(word == "ensures" for word, _ in self.clauses) or self.name in source.laws.get(holder, ())
         self.body = (begin, closing(code, begin))
         self.words = words_above(source.text[:head.start()])
 
@@ -90,6 +90,8 @@ class Source:
         impls = list(re.finditer(repository.IMPL + r"(?:<[^>]*>)? (?=\{)", self.code, re.M))
         self.impls = [(repository.holder(found), found.end(), closing(self.code, found.end())) for found in impls]
         self.of_traits = {repository.holder(found) for found in impls if found[1]}
+        # the methods of a trait's impl with a law there, as `ghost next_gives = { NextNode };` is that of `next`
+        self.laws = {name: set(re.findall(r"^ *ghost (\w+)_gives = \{", self.code[begin:end], re.M)) for name, begin, end in self.impls if name in self.of_traits}
         self.functions = [Function(self, head, self.holder_at(head.start())) for head in FUNCTION.finditer(self.code)]
         if len(self.functions) != len(re.findall(r"\bfn\s+\w", self.code)):
             raise Unread(fault(f"{crate}/{file} has a function that does not begin its line as rt fmt has it"))

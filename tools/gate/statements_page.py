@@ -84,10 +84,16 @@ def page():
         where = {}
         for m in re.finditer(r"^use Rattle\.(\w+)\.(specs|proofs)\.([\w.-]+)\.\{([^}]*)\}", text, re.M):
             owner, part, module, names = m.groups()
-            source = f"crates/{owner}/src" if module.startswith("declared.") else f"crates/{owner}/{part}/{module.replace('.', '/')}.antt"
+            if not (ROOT / "crates" / owner).is_dir():  # a library of the kit, which has no file here
+                source = f"`Rattle.{owner}.{part}.{module}` of the kit"
+            elif module.startswith("declared."):
+                source = f"[crates/{owner}/src](../crates/{owner}/src)"
+            else:
+                path = f"crates/{owner}/{part}/{module.replace('.', '/')}.antt"
+                source = f"[{path}](../{path})"
             where.setdefault(source, []).extend(n for n in (x.split(" as ")[-1].strip() for x in names.split(",")) if n in used)
         out += ["Where the names are defined:", "", "| Names | File |", "|---|---|"]
-        out += [f"| {', '.join(f'`{n}`' for n in sorted(set(ns)))} | [{s}](../{s}) |" for s, ns in sorted(where.items()) if ns]
+        out += [f"| {', '.join(f'`{n}`' for n in sorted(set(ns)))} | {s} |" for s, ns in sorted(where.items()) if ns]
         out.append("")
     return "\n".join(out).rstrip("\n") + "\n", wrong, count
 

@@ -390,6 +390,7 @@ IN_SHOWN = [
 # ---- promises.py, contracts.py
 
 MADE_UP = "fn made_up(n: u32) -> u32 {\n    n\n}\n"
+MADE_OF = "pub struct Made {\n    pub n: u32,\n}\n\nimpl From<u32> for Made {\n    fn from(n: u32) -> Made {\n        Made { n: 0 }\n    }\n}\n"
 
 
 def source(crate):
@@ -511,6 +512,8 @@ IN_PROMISES = [
             "starlark_checks_c::starlark_call: elsewhere::starlark_call is no public function of a library here"),
     Planted("a private function of the static library", added(source("starlark_checks_c"), MADE_UP), "starlark_checks_c::made_up: a static library has public functions alone"),
     Planted("a private function of a library with nothing", added(source("blocks"), MADE_UP), "blocks::made_up: it promises nothing"),
+    Planted("a method of a trait with nothing", added(source("blocks"), MADE_OF), "blocks::MadeFrom::from: it promises nothing"),
+    Planted("an iterator without its law", changed(source("forest"), r"^    ghost next_gives = \{ NextNode \};\n", ""), "forest::NodesIterator::next: it promises nothing"),
     Planted("a public function of a program", changed("crates/cases/src/answers.rt", r"^pub\(crate\) fn", "pub fn"), r"cases::answers::\w+: .*(ensures|answers nothing)"),
     Planted("no public function at all", changed("crates.txt", r"\A.*\Z", "audited: demand3\n"), "there is no public function"),
     # what is not read

@@ -1,22 +1,52 @@
--- Laws of bytes that are written over part of a buffer. A part that is replaced by as many bytes is `over`
--- (`put_over`). Bytes that fit are written by `over` (`laid_fits`), bytes that do not fit change nothing (`laid_away`),
--- and the length stays the same in both cases (`length_laid`). `put_away`, `put_room` and `put_whole` are the laws of
--- `put`. Assumes nothing.
+-- Laws of bytes that are written over part of a buffer. The loop stores one byte a turn: after i turns the buffer is
+-- the old one with the first i bytes pasted over it (`Putting`), and at the end with all of them (`put_end`). A part
+-- that is replaced by as many bytes is `over`, too (`put_over`). Bytes that fit are written by `over` (`laid_fits`),
+-- bytes that do not fit change nothing (`laid_away`), and the length stays the same in both cases (`length_laid`).
+-- `put_away`, `put_room` and `put_whole` are the laws of `put`. Assumes nothing.
 use mathlib.Core.Path.{◌≡◌, refl, sym, ap, ◌∙◌}
 use mathlib.Core.Bool.{Bool, true, false}
 use mathlib.Core.Logic.{⊎_elim}
-use mathlib.Core.List.{List, ◌++◌}
+use mathlib.Core.List.{List, ◌++◌, append_assoc}
 use Prim.Native.Nat.{ℕ, ◌+◌, ◌-◌, ◌<◌, ◌≤◌}
+use native.Mathlib.Numerals.{add-one}
 use native.Mathlib.Omega.{arith}
 use borrow.Rule.Slice.PartMut.{post_of}
-use lib.ListN.{length, take, drop}
-use lib.Seq.{drop-drop, length-take-le}
+use lib.ListN.{length, get_or, take, drop, set}
+use lib.Seq.{drop-drop, paste, paste-zero, paste-suc, length-paste, take-length, length-take-le}
 use lib.Dec.{leb}
 use borrow.Author.Tests.{le-leb, lt-leb, leb-true}
 use Rattle.fields.specs.Over.{over}
 use Rattle.fields.proofs.Basics.{le_or_lt}
 use Rattle.fields.proofs.Over.{length_over, over_front}
 use Rattle.blocks.specs.Laid.{laid_at}
+
+-- out has the first i of the bytes from place `at` on; every other byte is that of d
+pub record Putting (d bytes : List ℕ) (at : ℕ) (out : List ℕ) (i : ℕ) : Type 0 where
+  pub upto : i ≤ length bytes
+  pub room : at + length bytes ≤ length d
+  pub is : out ≡ paste d at bytes i
+
+pub put_start : (d bytes : List ℕ) (at : ℕ) → at + length bytes ≤ length d → Putting d bytes at d 0
+put_start d bytes at h = record { upto = omega arith; room = h; is = paste-zero d at bytes }
+
+module _ {d bytes : List ℕ} {at : ℕ} {out : List ℕ} {i : ℕ} (s : Putting d bytes at out i) where
+  pub put_long : length out ≡ length d
+  put_long = ap length s.is
+      ∙ length-paste d at bytes i (omega (arith, s.upto, s.room)) s.upto
+
+  pub put_on : i < length bytes → {x : ℕ} → x ≡ get_or bytes i 0 → Putting d bytes at (set out (at + i) x) (i + 1)
+  put_on h x-is = record {
+    upto = omega arith;
+    room = s.room;
+    is = rw (s.is, x-is, add-one i) (paste-suc d at bytes i 0 (omega (arith, s.room)) h);
+  }
+
+  pub put_end : length bytes ≤ i → out ≡ over at bytes d
+  unfolding over
+  put_end h =
+      let e : i ≡ length bytes = omega (arith, s.upto) in
+      let is : out ≡ paste d at bytes (length bytes) = rw e at s.is in
+      is ∙ rw (take-length bytes) (append_assoc (take at d) bytes (drop (at + length bytes) d))
 
 -- a part of a buffer that is replaced by as many bytes
 pub put_over : (at : ℕ) (bytes d : List ℕ) {new : List ℕ} → new ≡ bytes

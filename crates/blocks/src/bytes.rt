@@ -49,10 +49,13 @@ fn fits(at: usize, n: usize, room: usize) -> bool
     n <= room - at
 }
 
-// Writes bytes that fit into a buffer from a place on.
+// Writes bytes that fit into a buffer from a place on. `copy_from_slice` would be compiled to a call of memmove, which
+// the archive for C does not need otherwise (tools/native-lib); this loop is one of memcpy.
 fn lay(bytes: &[u8], at: usize, out: &mut [u8])
     requires { at + length bytes.now ≤ length out.old }
     ensures { out.new ≡ over at bytes.now out.old }
 {
-    out[at..at + bytes.len()].copy_from_slice(bytes);
+    for i in 0..bytes.len() {
+        out[at + i] = bytes[i];
+    }
 }

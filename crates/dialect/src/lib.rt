@@ -101,7 +101,7 @@ pub fn edition_of(number: u32) -> Option<Edition>
     if number == 2 {
         return Some(Edition::Two);
     }
-    None
+    None // no other number is an edition
 }
 
 // The edition of a file with these dialect bytes: the first if it states none. An edition that is stated needs dialect

@@ -28,12 +28,13 @@ pub(crate) fn add_errors(table: &[u8], names: &[u8], d: Dialect, figures: &mut [
     add_numbers(&found[0..total as usize], figures);
 }
 
-// Adds some error numbers.
+// Adds some error numbers. The loop is over their places, as the wrong answer first_error_not_counted begins at the
+// second place.
 fn add_numbers(found: &[u32], figures: &mut [u64; FIGURES])
     ensures { figures.new ≡ added figures.old (error_figures found.now) }
 {
-    for number in found {
-        add_number(*number, figures);
+    for i in 0..found.len() {
+        add_number(found[i], figures);
     }
 }
 

@@ -4,13 +4,15 @@ ghost use Rattle.std.specs.Prelude.{◌<◌, length};
 use std::io;
 use table::number;
 
-// Tries a file in all these ways.
-pub(crate) fn all(rt: &impl Print, mut file: Vec<u8>) -> io::Result<()> {
-    once(rt, "whole", file.as_slice())?;
-    change_all(rt, file.as_mut_slice())?;
-    cut_all(rt, file.as_slice())?;
-    file.push(0)?;
-    once(rt, "a byte more", file.as_slice())
+// Tries the file of n bytes at the front of a buffer in all these ways. One that fills the buffer is not tried.
+pub(crate) fn all(rt: &impl Print, space: &mut [u8], n: usize) -> io::Result<()> {
+    if space.len() <= n {
+        return Ok(());
+    }
+    once(rt, "whole", &space[..n])?;
+    change_all(rt, &mut space[..n])?;
+    cut_all(rt, &space[..n])?;
+    once(rt, "a byte more", &space[..n + 1])
 }
 
 fn once(rt: &impl Print, what: &str, file: &[u8]) -> io::Result<()> {

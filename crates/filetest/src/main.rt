@@ -12,16 +12,15 @@ mod lent;
 use std::fs::File;
 use std::io::{self, Read};
 
-// The first file is tried if it is shorter, as every table file is: the largest has 59,904 bytes.
+// The length of the buffer for the first file, which is tried if it is shorter, as every table file is: the largest has
+// 59,904 bytes.
 const MOST_READ: usize = 65_536;
 
 fn main(rt: HostRuntime) -> io::Result<()> {
-    let file = match read(&rt, "parameters.table") {
-        Ok(file) => file,
+    let mut space = [0u8; MOST_READ];
+    match read(&rt, "parameters.table", &mut space) {
+        Ok(n) => changes::all(&rt, &mut space, n)?,
         Err(why) => return fail(&rt, "parameters.table", why),
-    };
-    if file.len() < MOST_READ {
-        changes::all(&rt, file)?;
     }
     match File::open(&rt, "files.bin") {
         Ok(mut input) => files::all(&rt, &mut input),
@@ -29,13 +28,17 @@ fn main(rt: HostRuntime) -> io::Result<()> {
     }
 }
 
-// The first MOST_READ bytes of a file.
-fn read(rt: &HostRuntime, name: &str) -> io::Result<Vec<u8>> {
-    let mut bytes = Vec::new(rt.alloc());
-    File::open(rt, name)?
-        .take(MOST_READ as u64)
-        .read_to_end(&mut bytes)?;
-    Ok(bytes)
+// Reads a file until the buffer is full or the file ends, and returns the number of bytes.
+fn read(rt: &HostRuntime, name: &str, space: &mut [u8]) -> io::Result<usize> {
+    let mut file = File::open(rt, name)?;
+    let mut done = 0;
+    while done < space.len() {
+        match file.read(&mut space[done..])? {
+            0 => break,
+            more => done += more,
+        }
+    }
+    Ok(done)
 }
 
 // Writes a line to standard error: what failed, a colon, and why in the system's words, without the number after them.

@@ -222,7 +222,7 @@ pub fn starlark_table(table: &[u8], names: &[u8], out: &mut [u32; 12]) -> u32
 {
     let answer = table::check(table, names);
     match answer {
-        Ok(()) => 0,
+        Ok(()) => 0, // a sound table
         Err(r) => put_refused(r, out),
     }
 }

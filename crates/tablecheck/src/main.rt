@@ -49,11 +49,17 @@ fn check(
 
 // Reads until the buffer is full or the input ends, and returns the number of bytes. A failed read is not taken for
 // the end.
+// Each read gets all the room that is left: one with less room would lose the rest of a message, where the input keeps
+// messages apart (`read_to_end` and `io::copy` read in smaller pieces).
 fn fill(input: &mut impl Read, file: &mut [u8]) -> io::Result<usize> {
-    let mut most = input.take(file.len() as u64);
-    let mut room = file;
-    let n = io::copy(&mut most, &mut room)?;
-    Ok(n as usize)
+    let mut done = 0;
+    while done < file.len() {
+        match input.read(&mut file[done..])? {
+            0 => break,
+            more => done += more,
+        }
+    }
+    Ok(done)
 }
 
 // Prints the answer for the first `len` bytes of an array, as filepass::check_read takes them (its clauses buffer_len

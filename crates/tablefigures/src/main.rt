@@ -59,7 +59,7 @@ fn count(
     name: &str,
 ) -> io::Result<()> {
     let mut counters = [0u64; FIGURES];
-    match count_files(rt, input, &mut counters) {
+    match count_files(input, &mut counters) {
         Ok(()) => say_figures(rt, &counters),
         Err(Stopped::Refused { number, at }) => {
             say_figures(rt, &counters)?;
@@ -69,35 +69,48 @@ fn count(
     }
 }
 
-// Counts the files of an input. A turn fills the buffer, counts the files that are whole in it and drops their bytes,
-// so the buffer begins at `position` of the input. A proved loop must end, but an input need not: no input uses up the
-// turns.
-fn count_files(
-    rt: &impl AllocGlobal,
-    input: &mut impl Read,
-    counters: &mut [u64; FIGURES],
-) -> Result<(), Stopped> {
-    let mut buffer = Vec::new(rt.alloc());
+// Counts the files of an input. A turn fills the buffer, counts the files that are whole in it and moves the rest to
+// its front, so the buffer begins at `position` of the input, and its first `held` bytes are read. A proved loop must
+// end, but an input need not: no input uses up the turns. The buffer is no Vec: for want of memory that would fail.
+fn count_files(input: &mut impl Read, counters: &mut [u64; FIGURES]) -> Result<(), Stopped> {
+    let mut buffer = [0u8; BUFFER];
+    let mut held = 0;
     let mut position = 0u64;
     for _ in 0..u64::MAX {
-        let ended = fill(input, &mut buffer).map_err(Stopped::Failed)?;
+        let n = fill(input, &mut buffer, held).map_err(Stopped::Failed)?;
+        let ended = n < BUFFER;
         let wanted = if ended { 1 } else { WINDOW };
-        let taken = count_front(buffer.as_slice(), wanted, position, counters)?;
+        let taken = count_front(front(&buffer, n), wanted, position, counters)?;
         if ended {
             break;
         }
-        buffer.drain(..taken);
+        buffer.copy_within(taken.., 0);
+        held = BUFFER - taken;
         position = position.saturating_add(taken as u64);
     }
     Ok(())
 }
 
-// Reads until the buffer is full or the input ends, and returns whether it ended. A failed read is not taken for the
-// end.
-fn fill(input: &mut impl Read, buffer: &mut Vec<u8>) -> io::Result<bool> {
-    let room = BUFFER.saturating_sub(buffer.len());
-    let read = input.take(room as u64).read_to_end(buffer)?;
-    Ok(read < room)
+// The first n bytes of the buffer; none if it is shorter.
+fn front(buffer: &[u8], n: usize) -> &[u8]
+    ensures { length result.now ≤ length buffer.now }
+{
+    buffer.get(..n).unwrap_or(&[])
+}
+
+// Reads behind the first `held` bytes until the buffer is full or the input ends, and returns the number of bytes in
+// the buffer. A failed read is not taken for the end.
+// Each read gets all the room that is left: one with less room would lose the rest of a message, where the input keeps
+// messages apart (`read_to_end` and `io::copy` read in smaller pieces).
+fn fill(input: &mut impl Read, buffer: &mut [u8], held: usize) -> io::Result<usize> {
+    let mut done = held;
+    while done < buffer.len() {
+        match input.read(&mut buffer[done..])? {
+            0 => break,
+            more => done += more,
+        }
+    }
+    Ok(done)
 }
 
 // Counts the files at the front of the buffer as long as `wanted` bytes are unread, and returns the number of bytes

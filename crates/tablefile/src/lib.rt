@@ -13,7 +13,7 @@ ghost use Rattle.tablefile.specs.Reading.{blocks_check, front_check, sound_check
 ghost use Rattle.tablefile.specs.Loading.{verdict, laid, loaded_of, none};
 ghost use Rattle.tablefile.specs.Lending.{file_check, into_check, handed, copied, Holds};
 
-use blocks::{BLOCK_BYTES, CONTENT_BYTES};
+use blocks::{BLOCK_BYTES, CONTENT_BYTES, bytes};
 use forest::RECORD;
 use table::{MOST_BYTES, MOST_NAMES, MOST_NODES, Refusal, numbers};
 
@@ -379,7 +379,7 @@ fn put(from: &[u8], len: usize, out: &mut [u8])
     requires { (len ≤ length from.now) × (len ≤ length out.old) }
     ensures { out.new ≡ take len from.now ++ drop len out.old }
 {
-    out[0..len].copy_from_slice(&from[0..len]);
+    bytes::put(&from[0..len], 0, out)
 }
 
 // Copies len content bytes, of the blocks numbered from `first` on, to the front of out, block by block.

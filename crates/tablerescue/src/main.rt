@@ -5,6 +5,8 @@
 // reads and writes; what is rescued is decided by the library, rescue.
 #![tactic(auto)]
 
+ghost use Rattle.std.specs.Prelude.{◌≤◌, length, IfOk};
+
 use blocks::BLOCK_BYTES;
 use rescue::Kept;
 use std::env::{Env, FillError};
@@ -66,26 +68,42 @@ fn argument<'a>(rt: &impl Env, place: usize, space: &'a mut [u8]) -> io::Result<
     str::from_utf8(&space[..k]).map_err(|_| io::Error::from_raw_os_error(NOT_TEXT))
 }
 
-// Reads the input, and rescues what it contains.
+// Reads the input, and rescues what it contains. The first bytes are in an array, and not in a Vec, which would fail
+// for want of memory.
 fn run(rt: &HostRuntime, file: &mut impl Read, name: &str) -> io::Result<()> {
-    match read(rt, file) {
-        Ok((input, more)) => save(rt, input.as_slice(), more),
+    let mut space = [0u8; MOST_FILE];
+    match read(file, &mut space) {
+        Ok((input, more)) => save(rt, input, more),
         Err(why) => fail(rt, name, why),
     }
 }
 
 // The first bytes of the input, and the number of bytes after them. A failed read is not taken for the end.
-fn read(rt: &impl AllocGlobal, file: &mut impl Read) -> io::Result<(Vec<u8>, u64)> {
-    let mut input = Vec::new(rt.alloc());
-    file.by_ref()
-        .take(MOST_FILE as u64)
-        .read_to_end(&mut input)?;
+fn read<'a>(file: &mut impl Read, space: &'a mut [u8]) -> io::Result<(&'a [u8], u64)> {
+    let n = fill(file, space)?;
     let more = count_rest(file)?;
     // the first part ended, and bytes came after it: the file has changed, so nothing is written
-    if input.len() < MOST_FILE && 0 < more {
+    if n < MOST_FILE && 0 < more {
         return Err(io::Error::from_raw_os_error(READ_FAILED));
     }
-    Ok((input, more))
+    Ok((&space[..n], more))
+}
+
+// Reads until the buffer is full or the input ends, and returns the number of bytes. A failed read is not taken for
+// the end.
+// Each read gets all the room that is left: one with less room would lose the rest of a message, where the input keeps
+// messages apart (`read_to_end` and `io::copy` read in smaller pieces).
+fn fill(file: &mut impl Read, input: &mut [u8]) -> io::Result<usize>
+    ensures { IfOk result (λ n. n ≤ length input.new) }
+{
+    let mut done = 0;
+    while done < input.len() {
+        match file.read(&mut input[done..])? {
+            0 => break,
+            more => done += more,
+        }
+    }
+    Ok(done)
 }
 
 // The number of bytes up to the end of the input. `io::copy` into `io::sink` would take 1.3 times as long, since it

@@ -2,11 +2,11 @@
 use Rattle.figures.proofs.Occurring.{counting_start, counting_on, counting_end}
 use Rattle.figures.proofs.told.add_numbers.Goals as goal
 
-pub loop-number-init : goal.loop-number-init
-loop-number-init c = search counting_start
+pub loop-i-init : goal.loop-i-init
+loop-i-init c = search counting_start
 
-pub loop-number-preserved : goal.loop-number-preserved
-loop-number-preserved c = search counting_on
+pub loop-i-preserved : goal.loop-i-preserved
+loop-i-preserved c = search counting_on
 
 pub returns : goal.returns
 returns c = search counting_end
